@@ -1,0 +1,10 @@
+pub mod Tests
+pub mod Lists
+pub mod Rows
+pub mod Rules
+pub mod General
+pub mod Families
+pub mod Closed
+pub mod Bytes
+pub mod Listing
+pub mod Examples
