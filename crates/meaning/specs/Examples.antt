@@ -10,7 +10,7 @@ use Rattle.meaning.specs.Lists.{each, keep}
 use Rattle.meaning.specs.Rows.{Row, alike, before, same, isRow}
 use Rattle.meaning.specs.Rules.{Literal, atMost, atLeast, Rule, holds, met, scarce, scarces, horn}
 use Rattle.meaning.specs.General.{differs, earlier, split, fork, leftAt, rightAt, midAt, middle, rowRules, general}
-use Rattle.meaning.specs.Families.{fill, pick, both, mid, median, common, commonAnd, join, extreme, keepFor, reduce, metByAll, trim, hornRules, bijunctiveRules, rulesFor}
+use Rattle.meaning.specs.Families.{fill, pick, both, mid, median, common, commonAnd, join, extreme, keepFor, reduce, metByAll, trim, reduceFor, rulesFor}
 use Rattle.meaning.specs.Closed.{orElse, first, firstPair, firstTriple, unless, openPair, openTriple, openRows}
 use Rattle.meaning.specs.Bytes.{encodeLiterals, encodeRule, encodeRules, encode}
 use Rattle.meaning.specs.Listing.{decided, dead, Page, page}
@@ -46,7 +46,7 @@ found none = []
 found (some numbers) = numbers
 
 rulesOf : Example → List Rule
-unfolding rulesFor general hornRules bijunctiveRules rowRules leftAt rightAt midAt middle fork split earlier differs reduce horn scarces scarce common commonAnd join extreme keepFor both pick fill trim metByAll met holds
+unfolding rulesFor general reduceFor rowRules leftAt rightAt midAt middle fork split earlier differs reduce horn scarces scarce common commonAnd join extreme keepFor both pick fill trim metByAll met holds
 rulesOf e = rulesFor (e .family) (alike (e .n) (e .l)) (e .rows)
 
 openOf : Example → List ℕ

@@ -74,11 +74,9 @@ trim rows kept (c ∷ rest) = cond (metByAll (kept ++ rest) rows) (trim rows kep
 
 -- ---- the rules of a table in a family
 
-unfoldable pub hornRules : Side → Sizes → List Row → List Rule
-hornRules s ns rows = map (reduce s rows) (general ns rows)
-
-unfoldable pub bijunctiveRules : Sizes → List Row → List Rule
-bijunctiveRules ns rows = map (trim rows []) (general ns rows)
+-- the general rules stay as they are
+unfoldable pub reduceFor : ℕ → List Row → Rule → Rule
+reduceFor family rows r = byFamily family r (reduce low rows r) (reduce high rows r) (trim rows [] r)
 
 unfoldable pub rulesFor : ℕ → Sizes → List Row → List Rule
-rulesFor family ns rows = byFamily family (general ns rows) (hornRules low ns rows) (hornRules high ns rows) (bijunctiveRules ns rows)
+rulesFor family ns rows = map (reduceFor family rows) (general ns rows)
