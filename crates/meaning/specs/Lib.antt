@@ -9,3 +9,7 @@ pub mod Closed
 pub mod Bytes
 pub mod Listing
 pub mod Examples
+pub mod ListLaws
+pub mod All
+pub mod Ascending
+pub mod Order
