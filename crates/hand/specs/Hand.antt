@@ -1,0 +1,98 @@
+-- A rule in hand: the rule that a count and the literals' bytes stand for, and what one literal more does to it.
+use Prim.Native.Nat.{ℕ, _+_, _*_, _≤_, _<_}
+use native.Mathlib.Omega.{arith}
+use mathlib.Core.Path.{_≡_, refl, _∙_}
+use mathlib.Core.List.{List, [], _∷_, _++_}
+use mathlib.Core.Logic.{inl, inr}
+use lib.ListN.{length, getD, take, set, length-set}
+use lib.Seq.{getD-set-same}
+use borrow.Author.Needs.{read-below}
+use Rattle.meaning.specs.Tests.{lt-or-le}
+use Rattle.meaning.specs.Rules.{Rule}
+use Rattle.meaning.specs.Bytes.{encodeLiterals, literal, literalAt, literalsAt}
+use Rattle.hand.specs.declared.Hand.{Hand}
+use Rattle.hand.specs.Literals.{literals-length, literals-same, literals-more, literals-bytes}
+
+abbrev pub ruleIn : Hand → Rule
+ruleIn h = literalsAt (h .bytes) 0 (h .count)
+
+-- as many literals as fit, and each sign is 0 or 1, so that the bytes are those of the book
+pub record Sane (h : Hand) : Type 0 where
+  pub few : h .count ≤ 32
+  pub whole : length (h .bytes) ≡ 96
+  pub signs : (k : ℕ) → k < h .count → getD (h .bytes) (3 * k + 1) 0 < 2
+
+-- the hand h has the rule r in it
+pub record Holding (r : Rule) (h : Hand) : Type 0 where
+  pub sane : Sane h
+  pub rule : ruleIn h ≡ r
+
+-- ---- laws
+
+pub rule-length : (h : Hand) → length (ruleIn h) ≡ h .count
+rule-length h = literals-length (h .bytes) 0 (h .count)
+
+pub sane-bytes : (h : Hand) → Sane h → take (3 * h .count) (h .bytes) ≡ encodeLiterals (ruleIn h)
+sane-bytes h s =
+    let on : (j : ℕ) → j < h .count → getD (h .bytes) (0 + (3 * j + 1)) 0 < 2 = λ j l.
+    let z : 0 + (3 * j + 1) ≡ 3 * j + 1 = omega arith in
+    rw z (s .signs j l) in
+    literals-bytes (h .bytes) 0 (h .count) (omega (arith, s .few, s .whole)) on
+
+-- ---- one literal more
+
+-- a store leaves what stands before it
+set-before : (b : List ℕ) (i j v : ℕ) → j < i → getD (set b i v) j 0 ≡ getD b j 0
+set-before b i j v h = read-below ℕ b i j v 0 (getD b j 0) h refl
+
+module _ (b : List ℕ) (p i g d : ℕ) where
+  abbrev one : List ℕ
+  one = set b p i
+
+  abbrev two : List ℕ
+  two = set one (p + 1) g
+
+  -- its three bytes at p
+  abbrev pub put : List ℕ
+  put = set two (p + 2) d
+
+  pub put-length : length put ≡ length b
+  put-length = simp length-set
+
+  pub put-before : (j : ℕ) → j < p → getD put j 0 ≡ getD b j 0
+  put-before j h = set-before two (p + 2) j d (omega arith) ∙ set-before one (p + 1) j g (omega arith) ∙ set-before b p j i h
+
+  module _ (fits : p + 3 ≤ length b) where
+    pub put-sign : getD put (p + 1) 0 ≡ g
+    put-sign = set-before two (p + 2) (p + 1) d (omega arith) ∙ getD-set-same one (p + 1) g 0 (simp length-set (omega arith))
+
+    pub put-literal : literalAt put p ≡ literal g i d
+    put-literal =
+        let s : getD put p 0 ≡ i =
+        set-before two (p + 2) p d (omega arith) ∙ set-before one (p + 1) p g (omega arith) ∙ getD-set-same b p i 0 (omega arith) in
+        let t : getD put (p + 2) 0 ≡ d = getD-set-same two (p + 2) d 0 (simp length-set (omega arith)) in
+        rw (put-sign, s, t)
+
+pub pushed : (h : Hand) (i g d : ℕ) → Sane h → h .count < 32 → g < 2
+    → Holding (ruleIn h ++ (literal g i d ∷ [])) (record { count = h .count + 1; bytes = put (h .bytes) (3 * h .count) i g d })
+pushed h i g d s few g2 =
+    let b = h .bytes in
+    let k = h .count in
+    let p = 3 * k in
+    let fits : p + 3 ≤ length b = omega (arith, s .whole) in
+    let z : 0 + 3 * k ≡ p = omega arith in
+    let old : literalsAt (put b p i g d) 0 k ≡ literalsAt b 0 k = literals-same (put b p i g d) b 0 k (λ j l. put-before b p i g d j (omega arith)) in
+    let new : literalAt (put b p i g d) (0 + 3 * k) ≡ literal g i d = rw z (put-literal b p i g d fits) in
+    record {
+      sane = record {
+        few = omega arith;
+        whole = put-length b p i g d ∙ s .whole;
+        signs = λ j l. elim (lt-or-le j k) [
+          | inl t ↦ rw (put-before b p i g d (3 * j + 1) (omega arith)) (s .signs j t)
+          | inr t ↦
+              let e : j ≡ k = omega arith in
+              rw (e, put-sign b p i g d fits) g2
+        ];
+      };
+      rule = literals-more (put b p i g d) 0 k ∙ rw (old, new);
+    }
