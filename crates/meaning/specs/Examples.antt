@@ -1,13 +1,14 @@
 -- Document 01's examples P1 to P10, computed from the definitions: one table, one theorem, which names the entries that are wrong.
-use Prim.Native.Nat.{ℕ}
+use Prim.Native.Nat.{ℕ, _+_}
 use mathlib.Core.Path.{_≡_, refl}
-use mathlib.Core.Bool.{Bool, true, false, cond, _&&_}
-use mathlib.Core.List.{List, [], _∷_}
+use mathlib.Core.Bool.{Bool, true, false, cond, not, _&&_}
+use mathlib.Core.List.{List, [], _∷_, _++_, map}
 use mathlib.Core.Option.{Option, none, some}
-use lib.Dec.{eqb}
+use lib.Dec.{eqb, ltb, leb}
 use lib.ListN.{length}
+use Rattle.meaning.specs.Lists.{each, keep}
 use Rattle.meaning.specs.Rows.{Row, alike, before, same, isRow}
-use Rattle.meaning.specs.Rules.{atMost, atLeast, Rule, holds, met, scarce, scarces, horn}
+use Rattle.meaning.specs.Rules.{Literal, atMost, atLeast, Rule, holds, met, scarce, scarces, horn}
 use Rattle.meaning.specs.General.{differs, earlier, split, fork, leftAt, rightAt, midAt, middle, rowRules, general}
 use Rattle.meaning.specs.Families.{fill, pick, both, mid, median, common, commonAnd, join, extreme, keepFor, reduce, metByAll, trim, reduceFor, rulesFor}
 use Rattle.meaning.specs.Closed.{orElse, first, firstPair, firstTriple, unless, openPair, openTriple, openRows}

@@ -1,11 +1,11 @@
 -- The other families: rows combined setting by setting, and how a general rule is reduced to Horn, dual Horn or bijunctive.
 use Prim.Native.Nat.{ℕ, zero, suc, min, max}
-use mathlib.Core.Bool.{Bool, true, cond, _&&_}
+use mathlib.Core.Bool.{Bool, true, false, cond, _&&_}
 use mathlib.Core.List.{List, [], _∷_, _++_, map}
 use mathlib.Core.Option.{Option, none, some}
 use lib.ListN.{length}
 use Rattle.meaning.specs.Rows.{Row, Sizes, at}
-use Rattle.meaning.specs.Rules.{Rule, Side, low, high, holds, met, scarce, horn, byFamily}
+use Rattle.meaning.specs.Rules.{Literal, Rule, Side, low, high, holds, met, scarce, horn, byFamily}
 use Rattle.meaning.specs.General.{general}
 
 -- ---- rows combined

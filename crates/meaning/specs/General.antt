@@ -1,13 +1,13 @@
 -- The general maker: the rules of a table, as document 01 words them.
 -- Document 01 counts rows from 1 and calls setting i level i + 1; here both count from 0, so its row k is `row rows (k - 1)`.
 use Prim.Native.Nat.{ℕ, zero, suc, _+_, _-_}
-use mathlib.Core.Bool.{cond}
+use mathlib.Core.Bool.{Bool, true, false, cond}
 use mathlib.Core.List.{List, [], _∷_, _++_}
 use lib.Dec.{ltb, eqb}
 use lib.ListN.{length}
 use Rattle.meaning.specs.Lists.{opt, each}
 use Rattle.meaning.specs.Rows.{Row, Sizes, at, row}
-use Rattle.meaning.specs.Rules.{atMost, atLeast, Rule}
+use Rattle.meaning.specs.Rules.{Literal, atMost, atLeast, Rule}
 
 -- setting i, of n values, differs from v: "at most v-1" if v > 0 and "at least v+1" if v < n-1
 unfoldable pub differs : ℕ → ℕ → ℕ → Rule
