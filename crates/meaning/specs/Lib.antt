@@ -6,6 +6,12 @@ pub mod Rules
 pub mod General
 pub mod Families
 pub mod Closed
+pub mod Met
+pub mod Asked
+pub mod Members
+pub mod Parting
+pub mod Stands
+pub mod Exact
 pub mod Bytes
 pub mod Listing
 pub mod Examples

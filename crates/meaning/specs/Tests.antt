@@ -21,6 +21,16 @@ case false = isnt refl
 pub lt-or-le : (a b : ℕ) → (a < b) ⊎ (b ≤ a)
 lt-or-le a b = elim (case (ltb a b)) [ is e ↦ inl (ltb-true a b e) | isnt e ↦ inr (ltb-false a b e) ]
 
+pub not-le : (a b : ℕ) → (¬ (a ≤ b)) ↔ (b < a)
+not-le a b = (λ n. elim (lt-or-le b a) [ inl h ↦ h | inr h ↦ absurd (n h) ], λ h k. omega arith)
+
+-- numbers that cannot differ are equal
+pub eq-stable : (a b : ℕ) → ¬ (a ≢ b) → a ≡ b
+eq-stable a b n = elim (lt-or-le a b) [
+  | inl h ↦ absurd (n (omega arith))
+  | inr h ↦ elim (lt-or-le b a) [ inl k ↦ absurd (n (omega arith)) | inr k ↦ omega arith ]
+]
+
 -- ---- as facts
 
 pub yes-of : (b : Bool) → b ≡ true → T b
