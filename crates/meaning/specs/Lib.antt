@@ -13,6 +13,7 @@ pub mod Parting
 pub mod Stands
 pub mod Exact
 pub mod Bytes
+pub mod Encoded
 pub mod Listing
 pub mod Examples
 pub mod ListLaws
