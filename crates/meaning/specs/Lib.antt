@@ -12,6 +12,11 @@ pub mod Members
 pub mod Parting
 pub mod Stands
 pub mod Exact
+pub mod Combined
+pub mod Reduced
+pub mod Horn
+pub mod Median
+pub mod Made
 pub mod Bytes
 pub mod Encoded
 pub mod Listing
