@@ -1,2 +1,4 @@
 pub mod Literals
+pub mod Known
+pub mod Asked
 pub mod Hand

@@ -1,4 +1,6 @@
 // A rule in hand: the count and the bytes of its literals, by value, as the book has them.
+pub mod tests;
+
 ghost use mathlib.Core.Path.{_≡_};
 ghost use mathlib.Core.List.{[], _∷_, _++_};
 ghost use Prim.Native.Nat.{_+_, _*_, _≤_, _<_};
