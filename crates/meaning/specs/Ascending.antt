@@ -1,5 +1,5 @@
 -- Strictly ascending lists: each element comes before ALL that follow it. What comes after an element is what stands behind it.
-use mathlib.Core.Path.{_≡_, refl}
+use mathlib.Core.Path.{_≡_}
 use mathlib.Core.Bool.{Bool, true, false}
 use mathlib.Core.List.{List, [], _∷_, _++_}
 use Rattle.meaning.specs.Lists.{consIf, keep}

@@ -25,3 +25,10 @@ pub mod ListLaws
 pub mod All
 pub mod Ascending
 pub mod Order
+pub mod Tree
+pub mod Visited
+pub mod Dead
+pub mod After
+pub mod Shown
+pub mod Paged
+pub mod Runs
