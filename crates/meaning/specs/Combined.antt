@@ -1,6 +1,6 @@
 -- Combined: the values of rows combined setting by setting, and when a literal holds at a combined row.
 -- What a literal says of the minimum and of the maximum is all in which Horn and dual Horn differ.
-use Prim.Native.Nat.{ℕ, zero, suc, _≤_, _<_}
+use Prim.Native.Nat.{ℕ, zero, suc, _≤_, _<_, max}
 use native.Mathlib.Omega.{arith}
 use mathlib.Core.Path.{_≡_, refl, _∙_}
 use mathlib.Core.Logic.{_↔_, inl, inr}
@@ -16,12 +16,12 @@ use Rattle.meaning.specs.Tests.{lt-or-le, T-or, tests}
 
 -- ---- fill
 
-pub length-fill : (g : ℕ → ℕ) (n : ℕ) → length (fill g n) ≡ n
+length-fill : (g : ℕ → ℕ) (n : ℕ) → length (fill g n) ≡ n
 unfolding fill
 length-fill g zero = refl
 length-fill g (suc n) = rw (length-append, length-fill g n) (omega arith)
 
-pub at-fill : (g : ℕ → ℕ) (n i : ℕ) → i < n → at (fill g n) i ≡ g i
+at-fill : (g : ℕ → ℕ) (n i : ℕ) → i < n → at (fill g n) i ≡ g i
 unfolding fill
 at-fill g zero i h = absurd (omega arith)
 at-fill g (suc n) i h = elim (lt-or-le i n) [
@@ -30,10 +30,10 @@ at-fill g (suc n) i h = elim (lt-or-le i n) [
 ]
 
 -- beyond the end a value is 0
-pub at-end : (a : Row) (i : ℕ) → length a ≤ i → at a i ≡ 0
+at-end : (a : Row) (i : ℕ) → length a ≤ i → at a i ≡ 0
 at-end a i h = List·getD-eq-default a 0 h
 
-pub at-filled : (g : ℕ → ℕ) (n i : ℕ) → (n ≤ i → g i ≡ 0) → at (fill g n) i ≡ g i
+at-filled : (g : ℕ → ℕ) (n i : ℕ) → (n ≤ i → g i ≡ 0) → at (fill g n) i ≡ g i
 at-filled g n i z = elim (lt-or-le i n) [ inl h ↦ at-fill g n i h | inr h ↦ omega (arith, at-end (fill g n) i (omega (arith, length-fill g n)), z h) ]
 
 pick-zero : (s : Side) (u v : ℕ) → u ≡ 0 → v ≡ 0 → pick s u v ≡ 0
@@ -48,6 +48,14 @@ at-both s a b i = at-filled _ _ i (λ h. pick-zero s (at a i) (at b i) (at-end a
 pub at-median : (a b c : Row) (i : ℕ) → at (median a b c) i ≡ mid (at a i) (at b i) (at c i)
 unfolding median mid
 at-median a b c i = at-filled _ _ i (λ h. omega (arith, at-end a i (omega arith), at-end b i (omega arith), at-end c i (omega arith)))
+
+pub length-both : (s : Side) (a b : Row) → length (both s a b) ≡ max (length a) (length b)
+unfolding both
+length-both s a b = length-fill _ _
+
+pub length-median : (a b c : Row) → length (median a b c) ≡ max (max (length a) (length b)) (length c)
+unfolding median
+length-median a b c = length-fill _ _
 
 -- ---- a literal at a combined row
 

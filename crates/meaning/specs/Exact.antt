@@ -13,7 +13,7 @@ use Rattle.meaning.specs.Rules.{allMet}
 use Rattle.meaning.specs.General.{split, fork, middle, rowRules, general}
 use Rattle.meaning.specs.Tests.{lt-or-le, T-and}
 use Rattle.meaning.specs.Met.{met-nil, allMet-cons, allMet-append, allMet-each}
-use Rattle.meaning.specs.Members.{row-mem, mem-row, within-length, sound-row, sound-next}
+use Rattle.meaning.specs.Members.{row-mem, mem-row, within-length, sound-length, sound-next}
 use Rattle.meaning.specs.Parting.{Less, less-inside, less-irrefl, less-trans, less-asym, lower, equal, upper, compare, before-less}
 use Rattle.meaning.specs.Stands.{LeftOk, RightOk, MidOk, left-run, right-run, mid-one, next, left-ok, right-low, mid-low, next-low, right-high, mid-high}
 
@@ -27,13 +27,10 @@ module _ (rows : List Row) (k : ℕ) where
   fork-last h = rw (le-ltb (suc k) (length rows) h)
 
 module _ (ns : Sizes) (rows : List Row) (sane : T (sound ns rows)) where
-  row-length : (k : ℕ) → k < length rows → length (row rows k) ≡ length ns
-  row-length k h = within-length ns (row rows k) (sound-row ns rows sane k h)
-
   -- ---- the rows ascend
 
   abbrev step : (k : ℕ) → suc k < length rows → Less (row rows k) (row rows (suc k))
-  step k h = before-less (row rows k) (row rows (suc k)) (omega (arith, row-length k (omega arith), row-length (suc k) h)) (sound-next ns rows sane k h)
+  step k h = before-less (row rows k) (row rows (suc k)) (omega (arith, sound-length ns rows sane k (omega arith), sound-length ns rows sane (suc k) h)) (sound-next ns rows sane k h)
 
   ascends : (j k : ℕ) → j < k → k < length rows → Less (row rows j) (row rows k)
   ascends j zero h l = absurd (omega arith)
@@ -62,7 +59,7 @@ module _ (ns : Sizes) (rows : List Row) (sane : T (sound ns rows)) where
     unfolding middle allMet
     middle-met k = elim (lt-or-le (suc k) (length rows)) [
       | inl h ↦ let q = mid-one ns x w (row rows k) (row rows (suc k)) (split (row rows k) (row rows (suc k)))
-          (omega (arith, less-inside (row rows k) (row rows (suc k)) (step k h), row-length (suc k) h)) in
+          (omega (arith, less-inside (row rows k) (row rows (suc k)) (step k h), sound-length ns rows sane (suc k) h)) in
           rw (lt-ltb (suc k) (length rows) h) (λ t l. q .0 t, λ f. q .1 (f h))
       | inr h ↦ rw (le-ltb (suc k) (length rows) h) (λ t l. absurd (omega arith), λ f. tt)
     ]
@@ -76,8 +73,8 @@ module _ (ns : Sizes) (rows : List Row) (sane : T (sound ns rows)) where
     find : (f : (k : ℕ) → k < length rows → Says k) (n k : ℕ) → k + n ≡ length rows → 0 < n → ((p : Less x (row rows k)) → fork rows k ≤ p .place)
         → List·Memᴰ x rows
     find f zero k e z v = absurd (omega arith)
-    find f (suc n) k e z v = let h : k < length rows = omega arith in elim (compare x (row rows k) (omega (arith, within-length ns x w, row-length k h))) [
-      | lower p ↦ absurd (omega (arith, p .less, f k h .0 .0 (p .place) (v p) (omega (arith, less-inside x (row rows k) p, row-length k h)) (p .agree)))
+    find f (suc n) k e z v = let h : k < length rows = omega arith in elim (compare x (row rows k) (omega (arith, within-length ns x w, sound-length ns rows sane k h))) [
+      | lower p ↦ absurd (omega (arith, p .less, f k h .0 .0 (p .place) (v p) (omega (arith, less-inside x (row rows k) p, sound-length ns rows sane k h)) (p .agree)))
       | equal q ↦ rw q (row-mem rows k h)
       | upper p ↦ elim (lt-or-le (suc k) (length rows)) [
         | inl l ↦ find f n (suc k) (omega arith) (omega arith)

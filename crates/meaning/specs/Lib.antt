@@ -17,6 +17,11 @@ pub mod Reduced
 pub mod Horn
 pub mod Median
 pub mod Made
+pub mod Swapped
+pub mod Search
+pub mod Open
+pub mod OpenTriple
+pub mod Given
 pub mod Bytes
 pub mod Encoded
 pub mod Listing

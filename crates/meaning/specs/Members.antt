@@ -91,6 +91,9 @@ module _ (ns : Sizes) (rows : List Row) (t : T (sound ns rows)) where
   pub sound-row : (k : ℕ) → k < length rows → T (within ns (row rows k))
   sound-row k h = sound-mem (row rows k) (row-mem rows k h)
 
+  pub sound-length : (k : ℕ) → k < length rows → length (row rows k) ≡ length ns
+  sound-length k h = within-length ns (row rows k) (sound-row k h)
+
   pub sound-next : (k : ℕ) → suc k < length rows → T (before (row rows k) (row rows (suc k)))
   unfolding sound
   sound-next k h = ascending-next rows k (and-r (allWithin ns rows) (ascending rows) t) h
