@@ -1,0 +1,2 @@
+// From tested rows to a book.
+mod slots;
