@@ -1,2 +1,10 @@
 pub mod Put
 pub mod Records
+pub mod Format
+pub mod Faults
+pub mod Fields
+pub mod Literals
+pub mod Idle
+pub mod Signs
+pub mod Ruled
+pub mod Head

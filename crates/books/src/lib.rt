@@ -1,6 +1,39 @@
 // The book in bytes: reading it, a rule as a part of it, testing a combination against it, and writing its records.
+mod fields;
+mod literals;
+mod reader;
 mod records;
+mod rules;
 
+pub use reader::read;
 pub use records::put_end;
 pub use records::put_head;
 pub use records::put_rule;
+
+// What is wrong with a book, and at which place: refusals 9 to 15.
+pub enum Fault {
+    Cut(usize),
+    Mark(usize),
+    Field(usize),
+    Order(usize),
+    Idle(usize),
+    Family(usize),
+    Trailing(usize),
+}
+
+// What each step of the reader gives: a number, or the first fault.
+pub enum Got {
+    At(usize),
+    No(Fault),
+}
+
+// What reading a book gives: its head, or the first fault.
+pub enum Reading {
+    Book {
+        n: usize,
+        l: usize,
+        family: usize,
+        rules: usize,
+    },
+    Faulty(Fault),
+}

@@ -1,6 +1,7 @@
 pub mod Tests
 pub mod Lists
 pub mod Rows
+pub mod Alike
 pub mod Flat
 pub mod Rules
 pub mod General
