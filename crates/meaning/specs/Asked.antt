@@ -51,7 +51,7 @@ earlier-not ns m x (suc i) b = simp (met-append, T-nor, earlier-not ns m x i (λ
 
 module _ (ns : Sizes) (m x : Row) (i : ℕ) (b : (j : ℕ) → j ≤ i → at x j < at ns j) where
   -- it is not met just where x agrees with m at those settings and the rest is not met
-  rule-not : (r : Rule) → (¬ T (met (earlier ns m i ++ r) x)) ↔ (Agree i x m × (¬ T (met r x)))
+  pub rule-not : (r : Rule) → (¬ T (met (earlier ns m i ++ r) x)) ↔ (Agree i x m × (¬ T (met r x)))
   rule-not r = simp (met-append, T-nor, earlier-not ns m x i (λ j h. b j (omega arith))) Iff·rfl
 
   rule-met : (r : Rule) → T (met (earlier ns m i ++ r) x) ↔ (Agree i x m → T (met r x))

@@ -23,6 +23,9 @@ pub mod Search
 pub mod Open
 pub mod OpenTriple
 pub mod Given
+pub mod Idle
+pub mod Proper
+pub mod Bounds
 pub mod Bytes
 pub mod Encoded
 pub mod Listing

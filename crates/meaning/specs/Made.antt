@@ -38,7 +38,7 @@ pub rules-parts : (family : ℕ) (ns : Sizes) (rows : List Row) → Parts (rules
 unfolding rulesFor
 rules-parts family ns rows = reduced-parts (reduceFor family rows) (reduceFor-part family rows) (general ns rows)
 
-general-rows : (ns : Sizes) (rows : List Row) → T (sound ns rows) → RowsMeetAll rows (general ns rows)
+pub general-rows : (ns : Sizes) (rows : List Row) → T (sound ns rows) → RowsMeetAll rows (general ns rows)
 general-rows ns rows t m h = general-exact ns rows m t (sound-mem ns rows t m h) .1 h
 
 -- a combination within the sizes is permitted just where it is a row
