@@ -1,0 +1,20 @@
+-- Each way out is a lemma of Refusals.
+use native.Mathlib.Omega.{arith}
+use Rattle.tables.specs.Refusals.{limits-low, limits-high, limits-narrow, limits-wide}
+use Rattle.tables.proofs.flaws.in_limits.Statement.{statement}
+use Rattle.tables.proofs.flaws.in_limits.Tie as tie
+
+returns : tie.Need-returns
+returns c = search (limits-low, arith)
+
+returns-2 : tie.Need-returns-2
+returns-2 c = search (limits-high, arith)
+
+returns-3 : tie.Need-returns-3
+returns-3 c = search (limits-narrow, arith)
+
+returns-4 : tie.Need-returns-4
+returns-4 c = search (limits-wide, arith)
+
+pub in-limits-spec : {M : Type 1} → statement M
+in-limits-spec = tie.close (tie.spec returns returns-2 returns-3 returns-4)

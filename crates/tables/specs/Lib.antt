@@ -1,0 +1,5 @@
+pub mod Compare
+pub mod Check
+pub mod Loops
+pub mod Passes
+pub mod Refusals
