@@ -1,2 +1,3 @@
 // From tested rows to a book.
+mod sending;
 mod slots;

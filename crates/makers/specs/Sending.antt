@@ -1,0 +1,92 @@
+-- Sending: rules written one after another, each where it fits, with the length and the number of rules so far.
+use Prim.Native.Nat.{ℕ, _+_, _*_, _≤_, _<_}
+use native.Mathlib.Omega.{arith}
+use native.Mathlib.Nat.{add-zero, add-assoc}
+use mathlib.Core.Path.{_≡_, refl, sym, ap, _∙_}
+use mathlib.Core.List.{List, [], _∷_, _++_, map, map-append}
+use lib.ListN.{length, take, length-append}
+use lib.Seq.{length-take-le}
+use Rattle.meaning.specs.Rows.{Row, Sizes}
+use Rattle.meaning.specs.Rules.{Rule}
+use Rattle.meaning.specs.Families.{reduceFor}
+use Rattle.meaning.specs.Bytes.{encodeRule, encodeRules}
+use Rattle.meaning.specs.Encoded.{encodeRule-length}
+use Rattle.hand.specs.declared.Hand.{Hand}
+use Rattle.hand.specs.Hand.{ruleIn, Sane, sane-bytes}
+use Rattle.books.specs.Records.{Puts, ruleRecord, ruleRecord-is}
+use Rattle.books.specs.Put.{putAt, putIn, putAt-length, putAt-nothing, putAt-putAt, putIn-fits}
+use Rattle.makers.specs.declared.sending.Tally.{Tally}
+
+-- how far a book has come, and the room that it is written to
+abbrev pub State : Type 0
+State = Tally × List ℕ
+
+-- one rule: its record over the room where it fits, and counted in any case
+unfoldable pub send : Rule → State → State
+send r s = (
+  record { length = s .0 .length + length (encodeRule r); rules = s .0 .rules + 1 },
+  putIn (s .1) (s .0 .length) (encodeRule r),
+)
+
+unfoldable pub sends : List Rule → State → State
+sends [] s = s
+sends (r ∷ rs) s = sends rs (send r s)
+
+-- each reduced for the family
+unfoldable pub sendsFor : ℕ → List Row → List Rule → State → State
+sendsFor family rows rs s = sends (map (reduceFor family rows) rs) s
+
+-- ---- laws
+
+pub sends-append : (xs ys : List Rule) (s : State) → sends (xs ++ ys) s ≡ sends ys (sends xs s)
+unfolding sends
+sends-append [] ys s = refl
+sends-append (x ∷ xs) ys s = sends-append xs ys (send x s)
+
+pub sends-length : (rs : List Rule) (s : State) → sends rs s .0 .length ≡ s .0 .length + length (encodeRules rs)
+unfolding sends send encodeRules
+sends-length [] s = omega arith
+sends-length (r ∷ rs) s = sends-length rs (send r s) ∙ omega (arith, length-append (encodeRule r) (encodeRules rs))
+
+pub sends-rules : (rs : List Rule) (s : State) → sends rs s .0 .rules ≡ s .0 .rules + length rs
+unfolding sends send
+sends-rules [] s = omega arith
+sends-rules (r ∷ rs) s = sends-rules rs (send r s) ∙ omega arith
+
+-- where they all fit, all are written
+pub sends-room : (rs : List Rule) (s : State) → s .0 .length + length (encodeRules rs) ≤ length (s .1) → sends rs s .1 ≡ putAt (s .1) (s .0 .length) (encodeRules rs)
+unfolding sends send encodeRules
+sends-room [] s h = sym (putAt-nothing (s .1) (s .0 .length))
+sends-room (r ∷ rs) s h =
+    let b = s .1 in
+    let at = s .0 .length in
+    let both = length-append (encodeRule r) (encodeRules rs) in
+    let e : putIn b at (encodeRule r) ≡ putAt b at (encodeRule r) = putIn-fits b at (encodeRule r) (omega arith) in
+    let long : length (putIn b at (encodeRule r)) ≡ length b = rw e (putAt-length b at (encodeRule r) (omega arith)) in
+    sends-room rs (send r s) (omega arith)
+    ∙ rw e (putAt-putAt b at (encodeRule r) (encodeRules rs) (omega arith))
+
+-- in turn: what a list of rules does is done by its parts, one after the other
+pub sendsFor-append : (family : ℕ) (rows : List Row) (xs ys : List Rule) (s : State)
+    → sendsFor family rows (xs ++ ys) s ≡ sendsFor family rows ys (sendsFor family rows xs s)
+unfolding sendsFor
+sendsFor-append family rows xs ys s = rw map-append (sends-append (map (reduceFor family rows) xs) (map (reduceFor family rows) ys) s)
+
+-- ---- the way out of the code
+
+pub send-put : (h : Hand) (t : Tally) (old new : List ℕ) (next : ℕ) → Sane h → Puts old new (t .length) (ruleRecord (take (3 * h .count) (h .bytes))) next
+    → _≡_ {A = State} (record { length = next; rules = t .rules + 1 }, new) (send (ruleIn h) (t, old))
+unfolding send
+send-put h t old new next s p =
+    let e : ruleRecord (take (3 * h .count) (h .bytes)) ≡ encodeRule (ruleIn h) = rw (sane-bytes h s) (ruleRecord-is (ruleIn h)) in
+    let q = rw e at p in
+    rw (q .next-is, q .room)
+
+pub send-bytes : (h : Hand) → Sane h → 3 * h .count ≤ length (h .bytes)
+send-bytes h s = omega (arith, s .few, s .whole)
+
+pub send-length : (h : Hand) → Sane h → 3 * h .count ≡ length (take (3 * h .count) (h .bytes))
+send-length h s = sym (length-take-le (3 * h .count) (h .bytes) (send-bytes h s))
+
+pub send-few : (h : Hand) → Sane h → length (take (3 * h .count) (h .bytes)) < 768
+send-few h s = rw (length-take-le (3 * h .count) (h .bytes) (send-bytes h s)) (omega (arith, s .few))
