@@ -1,16 +1,14 @@
 -- Sending: rules written one after another, each where it fits, with the length and the number of rules so far.
 use Prim.Native.Nat.{ℕ, _+_, _*_, _≤_, _<_}
 use native.Mathlib.Omega.{arith}
-use native.Mathlib.Nat.{add-zero, add-assoc}
-use mathlib.Core.Path.{_≡_, refl, sym, ap, _∙_}
+use mathlib.Core.Path.{_≡_, refl, sym, _∙_}
 use mathlib.Core.List.{List, [], _∷_, _++_, map, map-append}
 use lib.ListN.{length, take, length-append}
 use lib.Seq.{length-take-le}
-use Rattle.meaning.specs.Rows.{Row, Sizes}
+use Rattle.meaning.specs.Rows.{Row}
 use Rattle.meaning.specs.Rules.{Rule}
 use Rattle.meaning.specs.Families.{reduceFor}
 use Rattle.meaning.specs.Bytes.{encodeRule, encodeRules}
-use Rattle.meaning.specs.Encoded.{encodeRule-length}
 use Rattle.hand.specs.declared.Hand.{Hand}
 use Rattle.hand.specs.Hand.{ruleIn, Sane, sane-bytes}
 use Rattle.books.specs.Records.{Puts, ruleRecord, ruleRecord-is}

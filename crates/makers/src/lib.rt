@@ -1,3 +1,4 @@
 // From tested rows to a book.
+mod rows;
 mod sending;
 mod slots;

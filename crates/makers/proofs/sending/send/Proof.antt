@@ -3,9 +3,6 @@ use Rattle.makers.specs.Sending.{send-put, send-length, send-few}
 use borrow.Author.Needs.{needs}
 use Rattle.makers.proofs.sending.send.Statement.{statement}
 use Rattle.makers.proofs.sending.send.Tie as tie
-use Rattle.makers.proofs.sending.send.Reads as reads
-use Rattle.makers.proofs.sending.send.Lts as lts
-use Rattle.books.proofs.put_rule.Reads as put-rule-reads
 
 mul-end : tie.Need-mul-end
 mul-end c = search needs
