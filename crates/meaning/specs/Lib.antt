@@ -26,6 +26,8 @@ pub mod Given
 pub mod Idle
 pub mod Proper
 pub mod Bounds
+pub mod Passed
+pub mod Converse
 pub mod Bytes
 pub mod Encoded
 pub mod Listing

@@ -4,7 +4,7 @@ use native.Mathlib.Omega.{arith}
 use mathlib.Core.Path.{_≡_, refl, ap}
 use mathlib.Core.Logic.{_↔_, inl, inr}
 use mathlib.Core.List.{List, [], _∷_, List·Memᴰ, List·Memᴰ·head, List·Memᴰ·tail, List·Memᴰ·not-nil, List·Memᴰ·cases-cons}
-use lib.Dec.{T, ltb, eqb, eqb→eq, eqb-refl, ltb→lt}
+use lib.Dec.{T, ltb, eqb, eqb→eq, eqb-refl, ltb→lt, lt→ltb}
 use lib.ListN.{length}
 use Rattle.meaning.specs.Rows.{Row, Sizes, at, row, within, before, ascending, allWithin, sound, same, isRow}
 use Rattle.meaning.specs.Tests.{and-l, and-r, and-i, or-l, or-r, or-e}
@@ -65,6 +65,13 @@ within-at [] (v ∷ x) t j h = absurd t
 within-at (n ∷ ns) [] t j h = absurd t
 within-at (n ∷ ns) (v ∷ x) t zero h = ltb→lt v n (and-l (ltb v n) (within ns x) t)
 within-at (n ∷ ns) (v ∷ x) t (suc j) h = within-at ns x (and-r (ltb v n) (within ns x) t) j (omega arith)
+
+pub within-of : (ns : Sizes) (x : Row) → length x ≡ length ns → ((j : ℕ) → j < length ns → at x j < at ns j) → T (within ns x)
+unfolding within
+within-of [] [] e f = tt
+within-of [] (v ∷ x) e f = absurd (omega arith)
+within-of (n ∷ ns) [] e f = absurd (omega arith)
+within-of (n ∷ ns) (v ∷ x) e f = and-i (ltb v n) (within ns x) (lt→ltb v n (f 0 (omega arith))) (within-of ns x (omega arith) (λ j h. f (suc j) (omega arith)))
 
 -- ---- a sound table
 
