@@ -8,3 +8,7 @@ pub mod Idle
 pub mod Signs
 pub mod Ruled
 pub mod Head
+pub mod Taken
+pub mod Holds
+pub mod Written
+pub mod Accepted
