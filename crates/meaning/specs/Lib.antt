@@ -16,6 +16,7 @@ pub mod Exact
 pub mod Combined
 pub mod Reduced
 pub mod Horn
+pub mod Extreme
 pub mod Median
 pub mod Made
 pub mod Swapped

@@ -12,7 +12,8 @@ use Rattle.meaning.specs.Met.{met-nil, allMet-cons}
 use Rattle.meaning.specs.Members.{sound-mem}
 use Rattle.meaning.specs.Exact.{general-exact}
 use Rattle.meaning.specs.Reduced.{Part, part-all, Parts, RowsMeet, RowsMeetAll, reduced-parts, reduced-met, reduced-stays}
-use Rattle.meaning.specs.Horn.{reduce-part, reduce-stays}
+use Rattle.meaning.specs.Horn.{reduce-part}
+use Rattle.meaning.specs.Extreme.{reduce-stays}
 use Rattle.meaning.specs.Median.{trim-part, trim-stays}
 
 -- ---- one rule

@@ -31,7 +31,7 @@ part-trans (skip q) p = skip (part-trans q p)
 part-trans (hold q) (skip p) = skip (part-trans q p)
 part-trans (hold q) (hold p) = hold (part-trans q p)
 
--- each rule of the first book is a part of the rule at the same place of the second
+-- each rule of the first list is part of the rule at the same place of the second
 pub data Parts : List Rule → List Rule → Type 0 where
   ended : Parts [] []
   next : {r s : Rule} {rs ss : List Rule} → Part r s → Parts rs ss → Parts (r ∷ rs) (s ∷ ss)
