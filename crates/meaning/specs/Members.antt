@@ -11,12 +11,12 @@ use Rattle.meaning.specs.Tests.{and-l, and-r, and-i, or-l, or-r, or-e}
 
 -- ---- a row of a table, by the test and by its number
 
-same-refl : (a : Row) → T (same a a)
+pub same-refl : (a : Row) → T (same a a)
 unfolding same
 same-refl [] = tt
 same-refl (u ∷ a) = and-i (eqb u u) (same a a) (eqb-refl u) (same-refl a)
 
-same-eq : (a b : Row) → T (same a b) → a ≡ b
+pub same-eq : (a b : Row) → T (same a b) → a ≡ b
 unfolding same
 same-eq [] [] t = refl
 same-eq [] (v ∷ b) t = absurd t
@@ -83,7 +83,7 @@ allWithin-mem ns (y ∷ rows) m t h = elim (List·Memᴰ·cases-cons h) [
   | inr k ↦ allWithin-mem ns rows m (and-r (within ns y) (allWithin ns rows) t) k
 ]
 
-ascending-next : (rows : List Row) (k : ℕ) → T (ascending rows) → suc k < length rows → T (before (row rows k) (row rows (suc k)))
+pub ascending-next : (rows : List Row) (k : ℕ) → T (ascending rows) → suc k < length rows → T (before (row rows k) (row rows (suc k)))
 unfolding ascending
 ascending-next [] k t h = absurd (omega arith)
 ascending-next (m ∷ []) k t h = absurd (omega arith)

@@ -1,4 +1,5 @@
 pub mod Compare
+pub mod Lookup
 pub mod Check
 pub mod Loops
 pub mod Passes

@@ -2,6 +2,7 @@
 //
 // A table is a run of bytes, l to a row. Rows, settings and places are numbered from 0.
 pub mod flaws;
+pub mod lookup;
 pub mod order;
 
 pub use flaws::check;
