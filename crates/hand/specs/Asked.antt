@@ -9,7 +9,7 @@ use lib.ListN.{length, getD}
 use Rattle.meaning.specs.Rows.{Row}
 use Rattle.meaning.specs.Rules.{holds, met}
 use Rattle.meaning.specs.Bytes.{literal, literalAt, literalsAt}
-use Rattle.hand.specs.Known.{Known, At, literals-on, literals-none, at-start, at-on}
+use Rattle.hand.specs.Known.{Known, At, literals-on, literals-none, at-start, at-on, Left, left-start, left-on}
 
 -- ---- a literal
 
@@ -31,12 +31,13 @@ holds-least b p i x e g = rw e (go (getD b (p + 1) 0) g)
 
 -- the rule is met if what is left of it is
 pub record MetAt (b : List ℕ) (count : ℕ) (x : Row) (p j : ℕ) : Type 0 where
-  pub where-is : At (length x) b count p j
+  pub place : At count p j
+  pub left : Left (length x) b count p j
   pub whole : met (literalsAt b 0 count) x ≡ met (literalsAt b p (count - j)) x
 
 module _ {b : List ℕ} {count : ℕ} {x : Row} where
   pub met-start : count ≤ 32 → Known (length x) (literalsAt b 0 count) → MetAt b count x 0 0
-  met-start f k = record { where-is = at-start f k; whole = rw sub-zero }
+  met-start f k = record { place = at-start f; left = left-start k; whole = rw sub-zero }
 
   module _ {p j : ℕ} {t : Bool} (m : MetAt b count x p j) (h : j < count) (e : t ≡ holds (literalAt b p) x) where
     pub met-yes : t ≡ true → true ≡ met (literalsAt b 0 count) x
@@ -46,7 +47,8 @@ module _ {b : List ℕ} {count : ℕ} {x : Row} where
     pub met-on : t ≡ false → MetAt b count x (p + 3) (j + 1)
     unfolding met
     met-on y = record {
-      where-is = at-on (m .where-is) h;
+      place = at-on (m .place) h;
+      left = left-on (m .left) h;
       whole = m .whole ∙ rw (literals-on b count p j h, ← e, y);
     }
 

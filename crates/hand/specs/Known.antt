@@ -17,15 +17,25 @@ pub fit-known : (ns : Sizes) (r : Rule) → AllFit ns r → Known (length ns) r
 fit-known ns [] f = tt
 fit-known ns (c ∷ r) f = (f .0 .known, fit-known ns r (f .1))
 
--- literal j of the first count of b stands at p, and their settings are below l
-pub record At (l : ℕ) (b : List ℕ) (count p j : ℕ) : Type 0 where
+-- literal j, of at most 32, stands at p
+pub record At (count p j : ℕ) : Type 0 where
   pub place : p ≡ 3 * j
   pub few : count ≤ 32
-  pub known : Known l (literalsAt b p (count - j))
 
 setting-literal : (g i d : ℕ) → setting (literal g i d) ≡ i
 setting-literal zero i d = refl
 setting-literal (suc g) i d = refl
+
+module _ {count : ℕ} where
+  pub at-start : count ≤ 32 → At count 0 0
+  at-start f = record { place = refl; few = f }
+
+  module _ {p j : ℕ} (a : At count p j) (h : j < count) where
+    pub at-on : At count (p + 3) (j + 1)
+    at-on = record { place = omega (arith, a .place); few = a .few }
+
+    pub at-fits : p + 3 ≤ 96
+    at-fits = omega (arith, a .place, a .few)
 
 module _ (b : List ℕ) (count p j : ℕ) where
   pub literals-on : j < count → literalsAt b p (count - j) ≡ literalAt b p ∷ literalsAt b (p + 3) (count - (j + 1))
@@ -40,19 +50,20 @@ module _ (b : List ℕ) (count p j : ℕ) where
       let e : count - j ≡ zero = omega arith in
       rw e
 
+-- the settings of the literals from number j on, which stand at p, are below l
+pub record Left (l : ℕ) (b : List ℕ) (count p j : ℕ) : Type 0 where
+  pub known : Known l (literalsAt b p (count - j))
+
 module _ {l : ℕ} {b : List ℕ} {count : ℕ} where
-  pub at-start : count ≤ 32 → Known l (literalsAt b 0 count) → At l b count 0 0
-  at-start f k = record { place = refl; few = f; known = rw sub-zero k }
+  pub left-start : Known l (literalsAt b 0 count) → Left l b count 0 0
+  left-start k = record { known = rw sub-zero k }
 
-  pub at-on : {p j : ℕ} → At l b count p j → j < count → At l b count (p + 3) (j + 1)
-  at-on {p} {j} a h =
-      let k : Known l (literalAt b p ∷ literalsAt b (p + 3) (count - (j + 1))) = rw (literals-on b count p j h) at (a .known) in
-      record { place = omega (arith, a .place); few = a .few; known = k .1 }
+  module _ {p j : ℕ} (left : Left l b count p j) (h : j < count) where
+    both : Known l (literalAt b p ∷ literalsAt b (p + 3) (count - (j + 1)))
+    both = rw (literals-on b count p j h) at (left .known)
 
-  pub at-fits : {p j : ℕ} → At l b count p j → j < count → p + 3 ≤ 96
-  at-fits a h = omega (arith, a .place, a .few)
+    pub left-on : Left l b count (p + 3) (j + 1)
+    left-on = record { known = both .1 }
 
-  pub at-known : {p j : ℕ} → At l b count p j → j < count → getD b p 0 < l
-  at-known {p} {j} a h =
-      let k : Known l (literalAt b p ∷ literalsAt b (p + 3) (count - (j + 1))) = rw (literals-on b count p j h) at (a .known) in
-      rw setting-literal at (k .0)
+    pub left-known : getD b p 0 < l
+    left-known = rw setting-literal at (both .0)

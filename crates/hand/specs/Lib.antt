@@ -1,4 +1,6 @@
 pub mod Literals
 pub mod Known
 pub mod Asked
+pub mod Change
+pub mod Pass
 pub mod Hand

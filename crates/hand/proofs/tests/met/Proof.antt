@@ -1,7 +1,7 @@
 -- `hand::tests::met` meets its contract. The invariant: the rule is met if what is left of it is (MetAt).
 use Prim.Native.Nat.{_-_}
 use borrow.Author.Needs.{needs}
-use Rattle.hand.specs.Known.{at-fits, at-known}
+use Rattle.hand.specs.Known.{at-fits, left-known}
 use Rattle.hand.specs.Asked.{MetAt, met-start, met-yes, met-on, met-none}
 use Rattle.hand.proofs.tests.met.Statement.{statement}
 use Rattle.hand.proofs.tests.met.Tie as tie
@@ -16,7 +16,7 @@ loop-holds : tie.Need-loop-holds Inv-loop μ-loop
 loop-holds c = search met-start
 
 holds-requires : tie.Need-holds-requires Inv-loop μ-loop
-holds-requires c κs = search (at-fits, at-known, needs)
+holds-requires c κs = search (at-fits, left-known, needs)
 
 returns : tie.Need-returns Inv-loop μ-loop
 returns c = search met-yes
