@@ -3,7 +3,7 @@ use Prim.Native.Nat.{ℕ, zero, suc, _+_, _≤_, _<_}
 use native.Mathlib.Omega.{arith}
 use native.Mathlib.Nat.{add-zero}
 use native.Mathlib.Numerals.{add-one}
-use mathlib.Core.Path.{_≡_, refl, sym, ap, _∙_}
+use mathlib.Core.Path.{_≡_, refl, _∙_}
 use mathlib.Core.List.{List, [], _∷_, _++_, append-assoc}
 use lib.ListN.{length, getD, take, drop, set, length-drop, take-append-drop}
 use lib.Seq.{getD-drop, drop-drop, take-suc-set, drop-set-lt}
@@ -34,7 +34,7 @@ module _ {A : Type 0} (f : ℕ → A → ℕ) where
       → take i ns ++ change (m ∷ ms) (drop i ns) ≡ take (i + 1) (set ns i v) ++ change ms (drop (i + 1) (set ns i v))
   unfolding change
   change-on m ms ns i v h e =
-      rw (add-one, take-suc-set ns i v h, drop-set-lt (suc i) ns i v (omega arith), append-assoc, e, getD-drop, add-zero, drop-drop) 
+      rw (add-one, take-suc-set ns i v h, drop-set-lt (suc i) ns i v (omega arith), append-assoc, e, getD-drop, add-zero, drop-drop)
       (rw add-one)
 
   -- all are done

@@ -1,14 +1,16 @@
 -- A rule in hand: the rule that a count and the literals' bytes stand for, and what one literal more does to it.
 use Prim.Native.Nat.{ℕ, _+_, _*_, _≤_, _<_}
 use native.Mathlib.Omega.{arith}
-use mathlib.Core.Path.{_≡_, refl, _∙_}
-use mathlib.Core.List.{List, [], _∷_, _++_}
+use mathlib.Core.Path.{_≡_, refl, sym, ap, _∙_}
+use mathlib.Core.Bool.{Bool, true, false}
+use mathlib.Core.List.{List, [], _∷_, _++_, append-nil}
 use mathlib.Core.Logic.{inl, inr}
-use lib.ListN.{length, getD, take, set, length-set}
+use lib.ListN.{length, getD, take, set, length-set, length-append}
 use lib.Seq.{getD-set-same}
 use borrow.Author.Needs.{read-below}
 use Rattle.meaning.specs.Tests.{lt-or-le}
-use Rattle.meaning.specs.Rules.{Rule}
+use Rattle.meaning.specs.Lists.{opt}
+use Rattle.meaning.specs.Rules.{Literal, Rule}
 use Rattle.meaning.specs.Bytes.{encodeLiterals, literal, literalAt, literalsAt}
 use Rattle.hand.specs.declared.Hand.{Hand}
 use Rattle.hand.specs.Literals.{literals-length, literals-same, literals-more, literals-bytes}
@@ -96,3 +98,22 @@ pushed h i g d s few g2 =
       };
       rule = literals-more (put b p i g d) 0 k ∙ rw (old, new);
     }
+
+-- ---- one literal more, if it is kept
+
+module _ (h : Hand) (k : Bool) (c : Literal) where
+  pub push-yes : (r : Hand) → k ≡ true → Holding (ruleIn h ++ (c ∷ [])) r → Holding (ruleIn h ++ opt k c) r
+  push-yes r y e = rw y e
+
+  pub push-no : k ≡ false → Sane h → Holding (ruleIn h ++ opt k c) h
+  push-no y s = record { sane = s; rule = rw y (sym (append-nil (ruleIn h))) }
+
+  pub opt-count : (r : Hand) → Holding (ruleIn h ++ opt k c) r → r .count ≤ h .count + 1
+  opt-count r e =
+      let n : r .count ≡ h .count + length (opt k c) =
+      sym (rule-length r) ∙ ap length (e .rule) ∙ length-append (ruleIn h) (opt k c) ∙ rw (rule-length h) in
+      omega (arith, opt-length k)
+    where
+      opt-length : (t : Bool) → length (opt t c) ≤ 1
+      opt-length true = omega arith
+      opt-length false = omega arith

@@ -8,6 +8,8 @@ use lib.ListN.{length, getD}
 use Rattle.meaning.specs.All.{All}
 use Rattle.meaning.specs.Rules.{Rule, setting, AllFit}
 use Rattle.meaning.specs.Rows.{Sizes}
+use Rattle.hand.specs.declared.Hand.{Hand}
+use Rattle.hand.specs.Hand.{ruleIn, Sane}
 use Rattle.meaning.specs.Bytes.{literal, literalAt, literalsAt}
 
 abbrev pub Known : ℕ → Rule → Type 0
@@ -67,3 +69,10 @@ module _ {l : ℕ} {b : List ℕ} {count : ℕ} where
 
     pub left-known : getD b p 0 < l
     left-known = rw setting-literal at (both .0)
+
+-- what a reduction asks of a hand and of the rows' length l
+pub record Ready (h : Hand) (l : ℕ) : Type 0 where
+  pub sane : Sane h
+  pub known : Known l (ruleIn h)
+  pub l-low : 1 ≤ l
+  pub l-high : l ≤ 16

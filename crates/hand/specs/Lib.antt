@@ -1,6 +1,9 @@
 pub mod Literals
+pub mod Hand
 pub mod Known
 pub mod Asked
 pub mod Change
 pub mod Pass
-pub mod Hand
+pub mod Sides
+pub mod Joined
+pub mod Chosen

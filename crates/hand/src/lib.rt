@@ -1,4 +1,5 @@
 // A rule in hand: the count and the bytes of its literals, by value, as the book has them.
+pub mod sides;
 pub mod tests;
 
 ghost use mathlib.Core.Path.{_≡_};
