@@ -3,41 +3,39 @@
 -- and holds-next goes on at its end. `holds-on` is that step as a loop over i makes it; fits-at tells of one literal.
 use Prim.Native.Nat.{ℕ, zero, suc, _+_, _*_, _-_, _≤_, _<_}
 use native.Mathlib.Omega.{arith}
-use mathlib.Core.Path.{_≡_, refl}
-use mathlib.Core.List.{List}
-use lib.ListN.{length, getD}
+use mathlib.Core.Path.{_≡_, refl, ap, _∙_}
+use mathlib.Core.List.{List, [], _++_, append-assoc}
+use lib.ListN.{length, getD, take, drop, drop-of-length-le}
+use lib.Seq.{take-at}
 use Rattle.meaning.specs.Rows.{Sizes, alike}
 use Rattle.meaning.specs.Rules.{setting, bound, Fits, AllFit, Good, AllGood}
-use Rattle.meaning.specs.Bytes.{literal, literalAt, literalsAt, ruleAt, endAt, rulesAt, placeAt}
-use Rattle.books.specs.declared.Got.the-variants.{At}
+use Rattle.meaning.specs.Bytes.{literal, literalAt, literalsAt, ruleAt, endAt, rulesAt, placeAt, encodeRule, encodeRules, encodeEnd}
+use Rattle.meaning.specs.Encoded.{rule-stands}
 use Rattle.books.specs.declared.Reading.the-variants.{Book}
-use Rattle.books.specs.Format.{readOf, ruleOf, rulesOf}
+use Rattle.books.specs.Format.{readOf}
 use Rattle.books.specs.Fields.{marked}
-use Rattle.books.specs.Literals.{chain}
-use Rattle.books.specs.Ruled.{ruled}
+use Rattle.books.specs.Back.{cons₂, rules-got}
 use Rattle.books.specs.Taken.{taken}
 
--- from place p on stand k good rules, and after them two bytes more
+-- from place p on stand k good rules, then the end, and nothing more
 pub record Holds (b : List ℕ) (ns : Sizes) (family p k : ℕ) : Type 0 where
   pub good : AllGood ns family (rulesAt b p k)
   pub inside : placeAt b p k + 2 ≤ length b
+  pub bytes : drop p b ≡ encodeRules (rulesAt b p k) ++ encodeEnd
 
 -- ---- the start
-
-rules-held : (b ns : List ℕ) (family p k e : ℕ) → rulesOf b ns family p k ≡ At e → AllGood ns family (rulesAt b p k) × (placeAt b p k ≡ e)
-unfolding rulesOf rulesAt placeAt
-rules-held b ns family p zero e h = (tt, cc)
-rules-held b ns family p (suc k) e h =
-    let s = chain (ruleOf b ns family p) _ e h in
-    let u = ruled b ns family p (s .0) (s .1) in
-    let m = rw (u .end) at (rules-held b ns family (s .0) k e (s .2)) in
-    ((u .good, m .0), m .1)
 
 pub holds-start : (b : List ℕ) (n l family k : ℕ) → readOf b ≡ Book n l family k → Holds b (alike n l) family 7 k
 holds-start b n l family k h =
     let t = taken b n l family k h in
-    let r = rules-held b (alike n l) family 7 k (t .end) (t .rules) in
-    record { good = r .0; inside = omega (arith, r .1, marked b (t .end) 69 (t .last) (t .end-mark) .inside) }
+    let r = rules-got b (alike n l) family 7 k (t .end) (t .rules) in
+    let z = marked b (t .end) 69 (t .last) (t .end-mark) in
+    let nil : drop (t .end + 2) b ≡ [] = drop-of-length-le b {i = t .end + 2} (omega (arith, t .done, z .next)) in
+    record {
+      good = r .good;
+      inside = omega (arith, r .end, z .inside);
+      bytes = r .bytes ∙ ap (λ (x : List ℕ). encodeRules (rulesAt b 7 k) ++ x) (cons₂ b (t .end) (omega (arith, z .inside)) ∙ rw (z .first, z .second, nil));
+    }
 
 -- ---- the step
 
@@ -54,11 +52,24 @@ module _ (b : List ℕ) (ns : Sizes) (family p k : ℕ) (a : Holds b ns family p
   unfolding rulesAt
   holds-good h = let e : k ≡ suc (k - 1) = omega arith in rw e at (a .good) .0
 
+  -- the bytes from there on: the rule's record first
+  holds-bytes : 0 < k → drop p b ≡ encodeRule (ruleAt b p) ++ (encodeRules (rulesAt b (endAt b p) (k - 1)) ++ encodeEnd)
+  unfolding rulesAt encodeRules
+  holds-bytes h =
+      let e : k ≡ suc (k - 1) = omega arith in
+      rw e at (a .bytes) ∙ append-assoc (encodeRule (ruleAt b p)) (encodeRules (rulesAt b (endAt b p) (k - 1))) encodeEnd
+
+  -- the record of the rule there is its encoding
+  pub holds-record : 0 < k → take (endAt b p - p) (drop p b) ≡ encodeRule (ruleAt b p)
+  holds-record h =
+      let n : length (encodeRule (ruleAt b p)) ≡ endAt b p - p = omega (arith, rule-stands b p (ruleAt b p) _ (holds-bytes h) .1) in
+      rw (holds-bytes h) (take-at (encodeRule (ruleAt b p)) _ (endAt b p - p) n)
+
   pub holds-next : 0 < k → Holds b ns family (endAt b p) (k - 1)
   unfolding rulesAt placeAt
   holds-next h =
       let e : k ≡ suc (k - 1) = omega arith in
-      record { good = rw e at (a .good) .1; inside = rw e at (a .inside) }
+      record { good = rw e at (a .good) .1; inside = rw e at (a .inside); bytes = rule-stands b p (ruleAt b p) _ (holds-bytes h) .2 }
 
   pub holds-inside : 0 < k → endAt b p ≤ length b
   holds-inside h = let n = holds-next h in omega (arith, placeAt-above b (endAt b p) (k - 1), n .inside)

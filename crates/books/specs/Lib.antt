@@ -8,7 +8,9 @@ pub mod Idle
 pub mod Signs
 pub mod Ruled
 pub mod Head
+pub mod Back
 pub mod Taken
 pub mod Holds
 pub mod Written
 pub mod Accepted
+pub mod Part

@@ -1,10 +1,12 @@
 // The book in bytes: reading it, a rule as a part of it, testing a combination against it, and writing its records.
 mod fields;
 mod literals;
+mod part;
 mod reader;
 mod records;
 mod rules;
 
+pub use part::rule;
 pub use reader::read;
 pub use records::put_end;
 pub use records::put_head;

@@ -1,0 +1,64 @@
+-- `books::part::place` meets its contract. The invariant says that the place is that of the rules left to pass (Walk).
+use Prim.Native.Nat.{_+_, _-_}
+use native.Mathlib.Omega.{arith}
+use Rattle.books.specs.Part.{Walk, walk-start, walk-on, walk-end}
+use borrow.Author.Needs.{needs}
+use Rattle.books.proofs.part.place.Statement.{statement}
+use Rattle.books.proofs.part.place.Tie as tie
+
+abbrev Inv-loop : tie.InvT-loop
+Inv-loop book number p₀ i₀ p i = Walk book number p i
+
+abbrev μ-loop : tie.MeasureT-loop
+μ-loop book number p₀ i₀ p i = number - i
+
+loop-holds : tie.Need-loop-holds Inv-loop μ-loop
+loop-holds c = search walk-start
+
+add-c : tie.Need-add-c Inv-loop μ-loop
+add-c c = search needs
+
+shared-slice-read-c : tie.Need-shared-slice-read-c Inv-loop μ-loop
+shared-slice-read-c c = search needs
+
+cast-c : tie.Need-cast-c Inv-loop μ-loop
+cast-c c = omega (arith, c .shared-slice-known .given (c .before .before .loop .p + 2))
+
+add-p : tie.Need-add-p Inv-loop μ-loop
+add-p c = search needs
+
+mul-p : tie.Need-mul-p Inv-loop μ-loop
+mul-p c = search needs
+
+add-p-2 : tie.Need-add-p-2 Inv-loop μ-loop
+add-p-2 c = search needs
+
+add-i : tie.Need-add-i Inv-loop μ-loop
+add-i c = search needs
+
+loop-less : tie.Need-loop-less Inv-loop μ-loop
+loop-less c = search needs
+
+loop-again : tie.Need-loop-again Inv-loop μ-loop
+loop-again c = search (walk-on, arith)
+
+returns : tie.Need-returns Inv-loop μ-loop
+returns c = search (walk-end, arith)
+
+pub place-spec : {M : Type 1} → statement M
+place-spec =
+    tie.close
+    (tie.spec
+    Inv-loop
+    μ-loop
+    loop-holds
+    add-c
+    shared-slice-read-c
+    cast-c
+    add-p
+    mul-p
+    add-p-2
+    add-i
+    loop-less
+    loop-again
+    returns)

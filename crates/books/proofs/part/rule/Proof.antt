@@ -1,0 +1,93 @@
+-- `books::part::rule` meets its contract: by cases on the number and the count (place-some, part-some; place-none, part-none).
+use mathlib.Core.Path.{refl, sym}
+use lib.Seq.{drop-length, take-nil}
+use Rattle.books.specs.Part.{place-some, part-some, place-none, part-none}
+use borrow.Author.Needs.{needs}
+use Rattle.books.proofs.part.rule.Statement.{statement}
+use Rattle.books.proofs.part.rule.Tie as tie
+
+count-requires : tie.Need-count-requires
+count-requires c κs = search needs
+
+place-requires : tie.Need-place-requires
+place-requires c κs = search needs
+
+add-c : tie.Need-add-c
+add-c c = search needs
+
+shared-slice-read-c : tie.Need-shared-slice-read-c
+shared-slice-read-c c = search needs
+
+cast-c : tie.Need-cast-c
+cast-c c = search needs
+
+add-end : tie.Need-add-end
+add-end c = search needs
+
+mul-end : tie.Need-mul-end
+mul-end c = search needs
+
+add-end-2 : tie.Need-add-end-2
+add-end-2 c = search needs
+
+sub-result : tie.Need-sub-result
+sub-result c = search needs
+
+part-result-start : tie.Need-part-result-start
+part-result-start c = search needs
+
+part-result-end : tie.Need-part-result-end
+part-result-end c = search needs
+
+returns : tie.Need-returns
+returns c =
+    let a = c .before .before .before .before .before .before .args in
+    let n = c .before .before .before .before .count in
+    let p = c .before .before .place in
+    let t = c .before .before .before .if1 .taken in
+    record {
+      block = refl;
+      offset = rw (place-some (a .book .now) (a .number) (n .result) (n .ensures) (p .result) (p .ensures) t);
+      bytes-are = sym (part-some (a .book .now) (a .number) (n .result) (n .ensures) (p .result) (p .ensures) t);
+    }
+
+sub-result-2 : tie.Need-sub-result-2
+sub-result-2 c = search needs
+
+part-result-start-2 : tie.Need-part-result-start-2
+part-result-start-2 c = search needs
+
+part-result-end-2 : tie.Need-part-result-end-2
+part-result-end-2 c = search needs
+
+returns-2 : tie.Need-returns-2
+returns-2 c =
+    let a = c .before .before .before .before .args in
+    let n = c .before .before .count in
+    let t = c .before .if1 .left in
+    record {
+      block = refl;
+      offset = rw (place-none (a .book .now) (a .number) (n .result) (n .ensures) t);
+      bytes-are = simp (drop-length, take-nil) (sym (part-none (a .book .now) (a .number) (n .result) (n .ensures) t));
+    }
+
+pub rule-spec : {M : Type 1} → statement M
+rule-spec =
+    tie.close
+    (tie.spec
+    count-requires
+    place-requires
+    add-c
+    shared-slice-read-c
+    cast-c
+    add-end
+    mul-end
+    add-end-2
+    sub-result
+    part-result-start
+    part-result-end
+    returns
+    sub-result-2
+    part-result-start-2
+    part-result-end-2
+    returns-2)

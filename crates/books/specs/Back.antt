@@ -1,0 +1,80 @@
+-- What was got is the encoding of what stands there: literals, a rule, rules; and what rules that were got tell.
+use Prim.Native.Nat.{ℕ, zero, suc, _+_, _*_, _<_}
+use native.Mathlib.Omega.{arith}
+use native.Mathlib.Numerals.{add-one}
+use mathlib.Core.Path.{_≡_, refl, sym, ap, _∙_}
+use mathlib.Core.List.{List, _∷_, _++_, append-assoc}
+use lib.ListN.{length, getD, drop}
+use lib.Seq.{drop-cons}
+use Rattle.meaning.specs.Rules.{setting, sign, bound, AllGood}
+use Rattle.meaning.specs.Bytes.{encodeLiterals, encodeRule, encodeRules, literal, literalsAt, ruleAt, endAt, rulesAt, placeAt}
+use Rattle.books.specs.declared.Got.the-variants.{At}
+use Rattle.books.specs.Format.{markOf, fieldOf, literalOf, literalsOf, bodyOf, ruleOf, rulesOf}
+use Rattle.books.specs.Fields.{fielded}
+use Rattle.books.specs.Literals.{literaled, chain}
+use Rattle.books.specs.Signs.{literals-length}
+use Rattle.books.specs.Ruled.{ruled}
+
+-- ---- the bytes from a place on, one more, two more, three more
+
+pub cons : (b : List ℕ) (p : ℕ) → p < length b → drop p b ≡ getD b p 0 ∷ drop (p + 1) b
+cons b p h = drop-cons b p 0 h ∙ rw (add-one p)
+
+pub cons₂ : (b : List ℕ) (p : ℕ) → p + 1 < length b → drop p b ≡ getD b p 0 ∷ getD b (p + 1) 0 ∷ drop (p + 2) b
+cons₂ b p h =
+    let e : p + 1 + 1 ≡ p + 2 = omega arith in
+    cons b p (omega arith) ∙ ap (λ (l : List ℕ). getD b p 0 ∷ l) (cons b (p + 1) h ∙ rw e)
+
+pub cons₃ : (b : List ℕ) (p : ℕ) → p + 2 < length b → drop p b ≡ getD b p 0 ∷ getD b (p + 1) 0 ∷ getD b (p + 2) 0 ∷ drop (p + 3) b
+cons₃ b p h =
+    let e : p + 2 + 1 ≡ p + 3 = omega arith in
+    cons₂ b p (omega arith) ∙ ap (λ (l : List ℕ). getD b p 0 ∷ getD b (p + 1) 0 ∷ l) (cons b (p + 2) h ∙ rw e)
+
+-- the parts of a literal are its three bytes
+literal-bytes : (g i d : ℕ) (t : List ℕ) → g < 2 → setting (literal g i d) ∷ sign (literal g i d) ∷ bound (literal g i d) ∷ t ≡ i ∷ g ∷ d ∷ t
+literal-bytes zero i d t h = refl
+literal-bytes (suc zero) i d t h = refl
+literal-bytes (suc (suc g)) i d t h = absurd (omega arith)
+
+literals-encoded : (b ns : List ℕ) (from least p k e : ℕ) → literalsOf b ns from least p k ≡ At e → drop p b ≡ encodeLiterals (literalsAt b p k) ++ drop (p + 3 * k) b
+unfolding literalsOf literalsAt encodeLiterals
+literals-encoded b ns from least p zero e h = let z : p + 3 * 0 ≡ p = omega arith in rw z
+literals-encoded b ns from least p (suc k) e h =
+    let s = chain (literalOf b ns from least p) _ e h in
+    let t = literaled b ns from least p (s .0) (s .1) in
+    let m = literals-encoded b ns from (s .0) (p + 3) k e (s .2) in
+    let z : p + 3 * suc k ≡ p + 3 + 3 * k = omega arith in
+    let g : getD b (p + 1) 0 < 2 = omega (arith, t .sign .value, t .sign .high) in
+    cons₃ b p (t .bound .inside) ∙ sym (literal-bytes (getD b (p + 1) 0) (getD b p 0) (getD b (p + 2) 0) (drop (p + 3) b) g) ∙ rw (z, m)
+
+rule-encoded : (b ns : List ℕ) (family from e : ℕ) → ruleOf b ns family from ≡ At e → drop from b ≡ encodeRule (ruleAt b from) ++ drop e b
+unfolding ruleOf bodyOf encodeRule
+rule-encoded b ns family from e h =
+    let u = ruled b ns family from e h in
+    let s₁ = chain (markOf b from 85) _ e h in
+    let s₂ = chain (fieldOf b from (from + 2) 0 (2 * length ns + 1)) _ e (s₁ .2) in
+    let c = fielded b from (from + 2) 0 (2 * length ns + 1) (s₂ .0) (s₂ .1) in
+    let s₃ = chain (literalsOf b ns from 0 (from + 3) (s₂ .0)) _ e (s₂ .2) in
+    let m = rw (c .value) at (literals-encoded b ns from 0 (from + 3) (s₂ .0) (s₃ .0) (s₃ .1)) in
+    cons₃ b from (u .count .inside) ∙ rw (u .mark .first, u .mark .second, m, literals-length b (from + 3) (getD b (from + 2) 0), u .end)
+
+-- what rules that were got tell
+pub record RulesGot (b ns : List ℕ) (family p k e : ℕ) : Type 0 where
+  pub good : AllGood ns family (rulesAt b p k)
+  pub end : placeAt b p k ≡ e
+  pub bytes : drop p b ≡ encodeRules (rulesAt b p k) ++ drop e b
+
+pub rules-got : (b ns : List ℕ) (family p k e : ℕ) → rulesOf b ns family p k ≡ At e → RulesGot b ns family p k e
+unfolding rulesOf rulesAt placeAt encodeRules
+rules-got b ns family p zero e h = let z : p ≡ e = cc in record { good = tt; end = z; bytes = rw z }
+rules-got b ns family p (suc k) e h =
+    let s = chain (ruleOf b ns family p) _ e h in
+    let u = ruled b ns family p (s .0) (s .1) in
+    let m = rw (u .end) at (rules-got b ns family (s .0) k e (s .2)) in
+    let x = rw (u .end) at (rule-encoded b ns family p (s .0) (s .1)) in
+    record {
+      good = (u .good, m .good);
+      end = m .end;
+      bytes = x ∙ ap (λ (t : List ℕ). encodeRule (ruleAt b p) ++ t) (m .bytes)
+          ∙ sym (append-assoc (encodeRule (ruleAt b p)) (encodeRules (rulesAt b (endAt b p) k)) (drop e b));
+    }

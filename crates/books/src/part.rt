@@ -1,0 +1,53 @@
+// A rule of a book by its number, as that part of the lent book itself.
+use crate::Reading;
+use crate::reader::read;
+ghost use mathlib.Core.Path.{_≡_};
+ghost use Prim.Native.Nat.{_<_};
+ghost use Rattle.books.specs.Format.{readOf};
+ghost use Rattle.books.specs.Part.{countOf, partOf, partPlace, Placed, IsPart};
+
+// How many rules the book has: none, if it is faulty.
+fn count(book: &[u8]) -> usize
+    ensures { λ r. ⌜ r ≡ countOf (readOf (now (book .entry))) ⌝ }
+{
+    match read(book) {
+        Reading::Book {
+            n: _,
+            l: _,
+            family: _,
+            rules,
+        } => rules,
+        Reading::Faulty(_) => 0,
+    }
+}
+
+// The place of the rule's mark.
+fn place(book: &[u8], number: usize) -> usize
+    requires { ⌜ number < countOf (readOf (now book)) ⌝ }
+    ensures { λ r. ⌜ Placed (now (book .entry)) number r ⌝ }
+{
+    let mut p: usize = 7;
+    let mut i: usize = 0;
+    while i < number {
+        let c = book[p + 2] as usize;
+        p = p + 3 + 3 * c;
+        i += 1;
+    }
+    p
+}
+
+// The rule's mark, count and literals, as that part of the book.
+// The empty part at the end of the book, for a number that no rule has or a book with a fault.
+pub fn rule<'a>(book: &'a [u8], number: usize) -> &'a [u8]
+    ensures { λ r. ⌜ IsPart (book .entry) r (partPlace (now (book .entry)) number) (partOf (now (book .entry)) number) ⌝ }
+{
+    let rules = count(book);
+    if number < rules {
+        let start = place(book, number);
+        let c = book[start + 2] as usize;
+        let end = start + 3 + 3 * c;
+        return &book[start..end];
+    }
+    let end = book.len();
+    &book[end..end]
+}
