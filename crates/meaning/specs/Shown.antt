@@ -14,6 +14,7 @@ use Rattle.meaning.specs.ListLaws.{keep-each, keep-map, each-ext}
 use Rattle.meaning.specs.All.{All, All-of, All-mono, All-map, All-each, All-keep, All-mem, keep-none, keep-holds, mem-each, mem-keep}
 use Rattle.meaning.specs.Ascending.{Ascends, ascends-keep}
 use Rattle.meaning.specs.Rows.{Row, Sizes, within, before}
+use Rattle.meaning.specs.Members.{within-length}
 use Rattle.meaning.specs.Rules.{Rule, allMet}
 use Rattle.meaning.specs.Listing.{dead, combinations, visits, shown}
 use Rattle.meaning.specs.Tree.{under, tree, limb, visits-tree, HeadIs, each-ascends, map-ascends}
@@ -28,13 +29,6 @@ within-cons n ns v x = (
   λ t. (ltb→lt v n (and-l (ltb v n) (within ns x) t), and-r (ltb v n) (within ns x) t),
   λ h. and-i (ltb v n) (within ns x) (yes-of (ltb v n) (lt-ltb v n (h .0))) (h .1),
 )
-
-pub within-length : (ns : Sizes) (x : Row) → T (within ns x) → length x ≡ length ns
-unfolding within
-within-length [] [] h = refl
-within-length [] (v ∷ x) h = absurd h
-within-length (n ∷ ns) [] h = absurd h
-within-length (n ∷ ns) (v ∷ x) h = ap suc (within-length ns x (and-r (ltb v n) (within ns x) h))
 
 abbrev leaf : Sizes → ℕ → List Row
 leaf ns v = map (λ s. v ∷ s) (combinations ns)

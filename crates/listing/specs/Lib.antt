@@ -1,0 +1,5 @@
+pub mod Sizes
+pub mod Cursors
+pub mod CursorTests
+pub mod Prefixes
+pub mod Moves
