@@ -1,5 +1,7 @@
 pub mod Compare
 pub mod Lookup
+pub mod Combining
+pub mod Closures
 pub mod Check
 pub mod Loops
 pub mod Passes

@@ -1,6 +1,8 @@
 // Tables: the check of a table, the search for a row of it, and the search for rows that show it not closed.
 //
 // A table is a run of bytes, l to a row. Rows, settings and places are numbered from 0.
+pub mod closures;
+pub mod combine;
 pub mod flaws;
 pub mod lookup;
 pub mod order;
@@ -23,4 +25,11 @@ pub enum Flaw {
 pub enum Checked {
     Sound(usize),
     Flawed(Flaw),
+}
+
+// What the search for closure gives: the table is closed, or the first rows, ascending, whose result is no row.
+pub enum Closure {
+    Closed,
+    Pair(usize, usize),
+    Triple(usize, usize, usize),
 }

@@ -1,0 +1,1 @@
+// The search for rows that show a table not closed.
