@@ -1,6 +1,7 @@
 -- Combining: two or three rows of a table are combined value by value into an array of sixteen.
 use Prim.Native.Nat.{ℕ, zero, suc, _+_, _*_, _/_, _≤_, _<_, max}
 use native.Mathlib.Omega.{arith}
+use native.Mathlib.Nat.{div-le-self}
 use native.Mathlib.Numerals.{add-one}
 use mathlib.Core.Path.{_≡_, refl, sym, ap, _∙_}
 use mathlib.Core.Bool.{Bool, true, false}
@@ -83,9 +84,10 @@ pub record Ready (l : ℕ) (table : List ℕ) : Type 0 where
 pub record Known (l : ℕ) (table : List ℕ) (i : ℕ) : Type 0 where
   pub known : i < length table / l
   pub ends : i * l + l ≤ length table
+  pub few : i < length table
 
 pub is-known : (l : ℕ) (table : List ℕ) (i : ℕ) → i < length table / l → Known l table i
-is-known l table i h = record { known = h; ends = row-ends l table i h }
+is-known l table i h = record { known = h; ends = row-ends l table i h; few = omega (arith, div-le-self (length table) l) }
 
 abbrev pub pairOf : Side → ℕ → List ℕ → ℕ → ℕ → Row
 pairOf s l table i j = both s (row (rowsOf l table) i) (row (rowsOf l table) j)

@@ -7,6 +7,7 @@ pub mod flaws;
 pub mod lookup;
 pub mod order;
 
+pub use closures::open_rows;
 pub use flaws::check;
 
 // What is wrong with a table: refusals 1 to 5 of document 01.
