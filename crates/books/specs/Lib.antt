@@ -14,3 +14,7 @@ pub mod Holds
 pub mod Written
 pub mod Accepted
 pub mod Part
+pub mod First
+pub mod Asked
+pub mod Tested
+pub mod Judged

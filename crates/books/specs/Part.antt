@@ -1,5 +1,5 @@
 -- A rule of a book by its number, as the part of the lent bytes that holds its record.
-use Prim.Native.Nat.{ℕ, zero, suc, _+_, _*_, _-_, _≤_, _<_}
+use Prim.Native.Nat.{ℕ, zero, suc, _+_, _-_, _≤_, _<_}
 use native.Mathlib.Omega.{arith}
 use native.Mathlib.Nat.{sub-zero}
 use mathlib.Core.Path.{_≡_, refl, sym, _∙_}
@@ -91,12 +91,12 @@ module _ (b : List ℕ) (k : ℕ) where
       let a = ahead-start b k h in
       record { whole = rw (sub-zero k); inside = ahead-inside b 7 k a; short = omega arith; ahead = rw (sub-zero k) a }
 
-  pub walk-on : (p i : ℕ) → Walk b k p i → i < k → Walk b k (p + 3 + 3 * getD b (p + 2) 0) (i + 1)
+  pub walk-on : (p i : ℕ) → Walk b k p i → i < k → (e : ℕ) → e ≡ endAt b p → Walk b k e (i + 1)
   unfolding placeAt
-  walk-on p i w h =
+  walk-on p i w h p′ o =
       let e : k - i ≡ suc (k - (i + 1)) = omega arith in
       let a = ahead-next b p (k - i) (k - (i + 1)) e (w .ahead) in
-      record { whole = w .whole ∙ rw e; inside = ahead-inside b (endAt b p) (k - (i + 1)) a; short = omega arith; ahead = a }
+      rw o (record { whole = w .whole ∙ rw e; inside = ahead-inside b (endAt b p) (k - (i + 1)) a; short = omega arith; ahead = a })
 
   pub walk-end : (p i : ℕ) → Walk b k p i → k ≤ i → Placed b k p
   unfolding placeAt
@@ -117,9 +117,9 @@ module _ (b : List ℕ) (k c : ℕ) (n : c ≡ countOf (readOf b)) where
     unfolding partPlace
     place-some h = rw (← n, lt-ltb k c h) (w .is)
 
-    pub part-some : k < c → partOf b k ≡ recordAt b p
+    pub part-some : k < c → (e : ℕ) → e ≡ endAt b p → partOf b k ≡ take (e - p) (drop p b)
     unfolding partOf
-    part-some h = rw (← n, lt-ltb k c h, w .is)
+    part-some h e o = rw (← n, lt-ltb k c h, w .is, o)
 
 -- ---- what the part is: the encoding of the rule
 

@@ -5,12 +5,17 @@ mod part;
 mod reader;
 mod records;
 mod rules;
+mod tester;
+mod walk;
 
 pub use part::rule;
 pub use reader::read;
 pub use records::put_end;
 pub use records::put_head;
 pub use records::put_rule;
+pub use tester::test;
+pub use walk::rule_end;
+pub use walk::rule_met;
 
 // What is wrong with a book, and at which place: refusals 9 to 15.
 pub enum Fault {
@@ -38,4 +43,14 @@ pub enum Reading {
         rules: usize,
     },
     Faulty(Fault),
+}
+
+// What testing a combination gives: permitted, the number of the first rule not met, or a refusal.
+// Length is 16, the combination not l long; Value is 17, with the place of its first value that is n or more.
+pub enum Tested {
+    Permitted,
+    NotMet(usize),
+    Faulty(Fault),
+    Length,
+    Value(usize),
 }

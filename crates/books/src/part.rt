@@ -1,6 +1,7 @@
 // A rule of a book by its number, as that part of the lent book itself.
 use crate::Reading;
 use crate::reader::read;
+use crate::walk::rule_end;
 ghost use mathlib.Core.Path.{_≡_};
 ghost use Prim.Native.Nat.{_<_};
 ghost use Rattle.books.specs.Format.{readOf};
@@ -29,8 +30,7 @@ fn place(book: &[u8], number: usize) -> usize
     let mut p: usize = 7;
     let mut i: usize = 0;
     while i < number {
-        let c = book[p + 2] as usize;
-        p = p + 3 + 3 * c;
+        p = rule_end(book, p);
         i += 1;
     }
     p
@@ -44,8 +44,7 @@ pub fn rule<'a>(book: &'a [u8], number: usize) -> &'a [u8]
     let rules = count(book);
     if number < rules {
         let start = place(book, number);
-        let c = book[start + 2] as usize;
-        let end = start + 3 + 3 * c;
+        let end = rule_end(book, start);
         return &book[start..end];
     }
     let end = book.len();

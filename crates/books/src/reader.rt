@@ -2,6 +2,7 @@
 use crate::Fault;
 use crate::Got;
 use crate::Reading;
+use crate::fields::byte;
 use crate::fields::field;
 use crate::fields::mark;
 use crate::fields::word;
@@ -13,20 +14,12 @@ ghost use Rattle.meaning.specs.Rows.{alike};
 ghost use Rattle.books.specs.Format.{rulesOf, tailOf, restOf, readOf};
 ghost use Rattle.books.specs.Literals.{Sized};
 
-// A size as a byte.
-fn narrow(n: usize) -> u8
-    requires { ⌜ n ≤ 64 ⌝ }
-    ensures { λ r. ⌜ r ≡ n ⌝ }
-{
-    n as u8
-}
-
 // The rules, over l settings of n values each.
 fn rules_alike(book: &[u8], n: usize, l: usize, family: usize, count: usize) -> Got
     requires { ⌜ Sized n l × (7 ≤ length (now book)) ⌝ }
     ensures { λ r. ⌜ r ≡ rulesOf (now (book .entry)) (alike n l) family 7 count ⌝ }
 {
-    let space = [narrow(n); 16];
+    let space = [byte(n); 16];
     let sizes = &space[..l];
     rules(book, sizes, family, 7, count)
 }

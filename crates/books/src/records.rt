@@ -1,5 +1,6 @@
 // Writing a book's records: each over the room from a place on where it fits, else nothing is written.
 // A writer gives the place after the record in either case, so that a run over no room measures.
+use crate::fields::byte;
 ghost use mathlib.Core.Path.{_≡_};
 ghost use mathlib.Core.List.{[], _∷_};
 ghost use Prim.Native.Nat.{_+_, _≤_, _<_};
@@ -7,14 +8,6 @@ ghost use lib.ListN.{length};
 ghost use Rattle.meaning.specs.Bytes.{encodeHead, encodeEnd};
 ghost use Rattle.books.specs.Put.{putAt};
 ghost use Rattle.books.specs.Records.{Puts, ruleRecord};
-
-// A number that fits a byte, as a byte.
-fn byte(x: usize) -> u8
-    requires { ⌜ x < 256 ⌝ }
-    ensures { λ r. ⌜ r ≡ x ⌝ }
-{
-    x as u8
-}
 
 // Copies the bytes over the room from `at` on; what stands before and after them stays.
 fn copy(room: &mut [u8], at: usize, bytes: &[u8])

@@ -12,23 +12,8 @@ count-requires c κs = search needs
 place-requires : tie.Need-place-requires
 place-requires c κs = search needs
 
-add-c : tie.Need-add-c
-add-c c = search needs
-
-shared-slice-read-c : tie.Need-shared-slice-read-c
-shared-slice-read-c c = search needs
-
-cast-c : tie.Need-cast-c
-cast-c c = search needs
-
-add-end : tie.Need-add-end
-add-end c = search needs
-
-mul-end : tie.Need-mul-end
-mul-end c = search needs
-
-add-end-2 : tie.Need-add-end-2
-add-end-2 c = search needs
+rule-end-requires : tie.Need-rule-end-requires
+rule-end-requires c κs = search needs
 
 sub-result : tie.Need-sub-result
 sub-result c = search needs
@@ -45,10 +30,11 @@ returns c =
     let n = c .before .before .before .before .count in
     let p = c .before .before .place in
     let t = c .before .before .before .if1 .taken in
+    let e = c .before .rule-end in
     record {
       block = refl;
       offset = rw (place-some (a .book .now) (a .number) (n .result) (n .ensures) (p .result) (p .ensures) t);
-      bytes-are = sym (part-some (a .book .now) (a .number) (n .result) (n .ensures) (p .result) (p .ensures) t);
+      bytes-are = sym (part-some (a .book .now) (a .number) (n .result) (n .ensures) (p .result) (p .ensures) t (e .result) (e .ensures));
     }
 
 sub-result-2 : tie.Need-sub-result-2
@@ -77,12 +63,7 @@ rule-spec =
     (tie.spec
     count-requires
     place-requires
-    add-c
-    shared-slice-read-c
-    cast-c
-    add-end
-    mul-end
-    add-end-2
+    rule-end-requires
     sub-result
     part-result-start
     part-result-end

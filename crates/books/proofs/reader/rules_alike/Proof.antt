@@ -5,8 +5,8 @@ use borrow.Author.Needs.{needs}
 use Rattle.books.proofs.reader.rules_alike.Statement.{statement}
 use Rattle.books.proofs.reader.rules_alike.Tie as tie
 
-narrow-requires : tie.Need-narrow-requires
-narrow-requires c κs = search needs
+byte-requires : tie.Need-byte-requires
+byte-requires c κs = search needs
 
 array-share-prefix-space : tie.Need-array-share-prefix-space
 array-share-prefix-space c = search needs
@@ -24,7 +24,7 @@ pub rules-alike-spec : {M : Type 1} → statement M
 rules-alike-spec =
     tie.close
     (tie.spec
-    narrow-requires
+    byte-requires
     array-share-prefix-space
     slice-aggregate-sizes
     rules-requires
