@@ -99,6 +99,9 @@ pushed h i g d s few g2 =
       rule = literals-more (put b p i g d) 0 k ∙ rw (old, new);
     }
 
+pub append-count : (h r : Hand) (more : Rule) → Holding (ruleIn h ++ more) r → r .count ≡ h .count + length more
+append-count h r more e = sym (rule-length r) ∙ ap length (e .rule) ∙ length-append (ruleIn h) more ∙ rw (rule-length h)
+
 -- ---- one literal more, if it is kept
 
 module _ (h : Hand) (k : Bool) (c : Literal) where
@@ -109,10 +112,7 @@ module _ (h : Hand) (k : Bool) (c : Literal) where
   push-no y s = record { sane = s; rule = rw y (sym (append-nil (ruleIn h))) }
 
   pub opt-count : (r : Hand) → Holding (ruleIn h ++ opt k c) r → r .count ≤ h .count + 1
-  opt-count r e =
-      let n : r .count ≡ h .count + length (opt k c) =
-      sym (rule-length r) ∙ ap length (e .rule) ∙ length-append (ruleIn h) (opt k c) ∙ rw (rule-length h) in
-      omega (arith, opt-length k)
+  opt-count r e = omega (arith, append-count h r (opt k c) e, opt-length k)
     where
       opt-length : (t : Bool) → length (opt t c) ≤ 1
       opt-length true = omega arith

@@ -7,7 +7,7 @@ use mathlib.Core.List.{List, [], _∷_}
 use lib.ListN.{length, getD}
 use Rattle.meaning.specs.All.{All}
 use Rattle.meaning.specs.Rules.{Rule, setting, AllFit}
-use Rattle.meaning.specs.Rows.{Sizes}
+use Rattle.meaning.specs.Rows.{Sizes, rowsOf}
 use Rattle.hand.specs.declared.Hand.{Hand}
 use Rattle.hand.specs.Hand.{ruleIn, Sane}
 use Rattle.meaning.specs.Bytes.{literal, literalAt, literalsAt}
@@ -70,9 +70,10 @@ module _ {l : ℕ} {b : List ℕ} {count : ℕ} where
     pub left-known : getD b p 0 < l
     left-known = rw setting-literal at (both .0)
 
--- what a reduction asks of a hand and of the rows' length l
-pub record Ready (h : Hand) (l : ℕ) : Type 0 where
+-- what a reduction asks of a hand and a table, l bytes to a row
+pub record Ready (h : Hand) (l : ℕ) (table : List ℕ) : Type 0 where
   pub sane : Sane h
   pub known : Known l (ruleIn h)
   pub l-low : 1 ≤ l
   pub l-high : l ≤ 16
+  pub rows : length (rowsOf l table) ≤ 512

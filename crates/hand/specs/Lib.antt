@@ -2,8 +2,12 @@ pub mod Literals
 pub mod Hand
 pub mod Known
 pub mod Asked
+pub mod Number
 pub mod Change
 pub mod Pass
 pub mod Sides
 pub mod Joined
 pub mod Chosen
+pub mod Counts
+pub mod Counted
+pub mod Reduced

@@ -44,3 +44,6 @@ module _ (l : ℕ) (table : List ℕ) (at : ℕ) where
 
     pub part-known : (r : Rule) → Known l r → Known (length (part l table at)) r
     part-known r k = rw part-length k
+
+    pub part-below : (i : ℕ) → i < l → i < length (part l table at)
+    part-below i k = rw part-length k

@@ -1,12 +1,18 @@
 // A rule in hand: the count and the bytes of its literals, by value, as the book has them.
+pub mod counts;
 pub mod sides;
 pub mod tests;
 
+use crate::counts::trim;
+use crate::sides::horn;
 ghost use mathlib.Core.Path.{_≡_};
 ghost use mathlib.Core.List.{[], _∷_, _++_};
 ghost use Prim.Native.Nat.{_+_, _*_, _≤_, _<_};
+ghost use Rattle.meaning.specs.Rows.{rowsOf};
 ghost use Rattle.meaning.specs.Bytes.{literal};
+ghost use Rattle.meaning.specs.Families.{reduceFor};
 ghost use Rattle.hand.specs.Hand.{ruleIn, Sane, Holding};
+ghost use Rattle.hand.specs.Known.{Ready};
 
 // Three bytes a literal: setting, sign (0 at most, 1 at least), bound. At most 32 of them.
 pub struct Hand {
@@ -39,4 +45,21 @@ pub fn push(h: Hand, setting: u8, sign: u8, bound: u8) -> Hand
         count: count + 1,
         bytes,
     }
+}
+
+// The rule in hand as one of the family (0 general, 1 Horn, 2 dual Horn, 3 bijunctive) over a table of l bytes a row.
+pub fn reduced(h: Hand, family: usize, table: &[u8], l: usize) -> Hand
+    requires { ⌜ Ready h l (now table) ⌝ }
+    ensures { λ r. ⌜ Holding (reduceFor family (rowsOf l (now (table .entry))) (ruleIn h)) r ⌝ }
+{
+    if family == 0 {
+        return h;
+    }
+    if family == 1 {
+        return horn(h, false, table, l);
+    }
+    if family == 2 {
+        return horn(h, true, table, l);
+    }
+    trim(h, table, l)
 }

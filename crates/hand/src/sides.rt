@@ -17,6 +17,7 @@ ghost use Rattle.meaning.specs.Bytes.{literalAt, literalsAt};
 ghost use Rattle.meaning.specs.Families.{pick, join, extreme, keepFor, reduce};
 ghost use Rattle.hand.specs.Hand.{ruleIn, Sane, Holding};
 ghost use Rattle.hand.specs.Known.{Known, Ready};
+ghost use Rattle.hand.specs.Number.{one};
 ghost use Rattle.hand.specs.Sides.{side};
 ghost use Rattle.hand.specs.Joined.{rowIn, Joins, picked};
 ghost use Rattle.hand.specs.Chosen.{kept, foundBy};
@@ -42,7 +43,7 @@ fn scarce(bytes: &[u8; 96], p: usize, high: bool) -> bool
 // 1 for a scarce literal at `p`, 0 for a common one.
 fn scarce_one(bytes: &[u8; 96], p: usize, high: bool) -> usize
     requires { ⌜ p + 3 ≤ 96 ⌝ }
-    ensures { λ r. ⌜ r ≡ cond (scarce (side high) (literalAt (now (bytes .entry)) p)) 1 0 ⌝ }
+    ensures { λ r. ⌜ r ≡ one (scarce (side high) (literalAt (now (bytes .entry)) p)) ⌝ }
 {
     if scarce(bytes, p, high) {
         return 1;
@@ -59,8 +60,8 @@ fn scarces(bytes: &[u8; 96], count: usize, high: bool) -> usize
     let mut p: usize = 0;
     let mut j: usize = 0;
     while j < count {
-        let one = scarce_one(bytes, p, high);
-        k += one;
+        let more = scarce_one(bytes, p, high);
+        k += more;
         p += 3;
         j += 1;
     }
@@ -194,7 +195,7 @@ fn keep_for(h: Hand, high: bool, e: Joined, l: usize) -> Hand
 // The rule as a Horn rule, or for `high` as a dual Horn one: as it is, if it has at most one scarce literal; otherwise its
 // common literals and, if rows meet none of these, the first scarce one that holds in what those rows combine to.
 pub fn horn(h: Hand, high: bool, table: &[u8], l: usize) -> Hand
-    requires { ⌜ Ready h l ⌝ }
+    requires { ⌜ Ready h l (now table) ⌝ }
     ensures { λ r. ⌜ Holding (reduce (side high) (rowsOf l (now (table .entry))) (ruleIn h)) r ⌝ }
 {
     let count = h.count;
