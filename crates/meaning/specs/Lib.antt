@@ -10,6 +10,7 @@ pub mod Closed
 pub mod Met
 pub mod Asked
 pub mod Members
+pub mod Sound
 pub mod Parting
 pub mod Stands
 pub mod Exact

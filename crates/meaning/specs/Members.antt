@@ -75,7 +75,7 @@ within-of (n ∷ ns) (v ∷ x) e f = and-i (ltb v n) (within ns x) (lt→ltb v n
 
 -- ---- a sound table
 
-allWithin-mem : (ns : Sizes) (rows : List Row) (m : Row) → T (allWithin ns rows) → List·Memᴰ m rows → T (within ns m)
+pub allWithin-mem : (ns : Sizes) (rows : List Row) (m : Row) → T (allWithin ns rows) → List·Memᴰ m rows → T (within ns m)
 unfolding allWithin
 allWithin-mem ns [] m t h = absurd (List·Memᴰ·not-nil h)
 allWithin-mem ns (y ∷ rows) m t h = elim (List·Memᴰ·cases-cons h) [

@@ -36,7 +36,7 @@ module _ {A : Type 0} where
     pub gives : f place ≡ some a
     pub before : (j : ℕ) → s ≤ j → j < place → f j ≡ none
 
-  orElse-none : (o p : Option A) → (orElse o p ≡ none) → (o ≡ none) × (p ≡ none)
+  pub orElse-none : (o p : Option A) → (orElse o p ≡ none) → (o ≡ none) × (p ≡ none)
   unfolding orElse
   orElse-none none p e = (refl, e)
   orElse-none (some a) p e = absurd (none-some (sym e))

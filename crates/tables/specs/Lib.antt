@@ -6,3 +6,6 @@ pub mod Check
 pub mod Loops
 pub mod Passes
 pub mod Refusals
+pub mod Firsts
+pub mod Flaws
+pub mod Promised

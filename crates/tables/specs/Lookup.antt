@@ -11,7 +11,8 @@ use lib.ListN.{length, take, drop}
 use Rattle.meaning.specs.Rows.{Row, row, before, ascending, same, isRow, rowsOf}
 use Rattle.meaning.specs.Tests.{Case, is, isnt, case, lt-or-le, yes-of, no-of, is-yes, is-no}
 use Rattle.meaning.specs.Order.{before-irreflexive, before-transitive, before-total}
-use Rattle.meaning.specs.Members.{same-refl, same-eq, isRow-mem, row-mem, mem-row, ascending-next}
+use Rattle.meaning.specs.Members.{same-refl, same-eq, isRow-mem, row-mem, mem-row}
+use Rattle.meaning.specs.Sound.{ascending-before}
 use Rattle.meaning.specs.Flat.{rows-count, row-bytes, row-ends}
 use Rattle.tables.specs.declared.order.Compared.{Compared}
 use Rattle.tables.specs.declared.order.Compared.the-variants.{Below, Same, Above}
@@ -21,14 +22,6 @@ use Rattle.tables.specs.Compare.{comparedOf, compared-says}
 pub record Rising (l : ℕ) (table : List ℕ) : Type 0 where
   pub wide : 0 < l
   pub rising : T (ascending (rowsOf l table))
-
--- an earlier row comes before a later one
-pub rising-before : (rows : List Row) → T (ascending rows) → (j k : ℕ) → j < k → k < length rows → before (row rows j) (row rows k) ≡ true
-rising-before rows t j zero h i = absurd (omega arith)
-rising-before rows t j (suc k) h i = elim (lt-or-le j k) [
-  | inl g ↦ before-transitive (row rows j) (row rows k) (row rows (suc k)) (rising-before rows t j k g (omega arith)) (is-yes _ (ascending-next rows k t i))
-  | inr g ↦ let e : j ≡ k = omega arith in rw e (is-yes _ (ascending-next rows k t i))
-]
 
 -- ---- the rows from low up to high are those among which x may be
 
@@ -55,7 +48,7 @@ module _ (x : Row) (rows : List Row) where
       inside = omega (arith, c .inside);
       below = c .below;
       above = λ k h i. elim (lt-or-le m k) [
-        | inl j ↦ before-transitive x (row rows m) (row rows k) e (rising-before rows t m k j i)
+        | inl j ↦ before-transitive x (row rows m) (row rows k) e (ascending-before rows t m k j i)
         | inr j ↦ let f : k ≡ m = omega arith in rw f e
       ];
     }
@@ -64,7 +57,7 @@ module _ (x : Row) (rows : List Row) where
     between-high e f = record {
       inside = c .inside;
       below = λ k h. elim (lt-or-le k m) [
-        | inl j ↦ before-transitive (row rows k) (row rows m) x (rising-before rows t k m j (omega (arith, c .inside))) after
+        | inl j ↦ before-transitive (row rows k) (row rows m) x (ascending-before rows t k m j (omega (arith, c .inside))) after
         | inr j ↦ let p : k ≡ m = omega arith in rw p after
       ];
       above = c .above;
