@@ -1,3 +1,10 @@
-pub mod Slots
+pub mod Earlier
 pub mod Sending
 pub mod Parts
+pub mod Edges
+pub mod Middle
+pub mod Making
+pub mod AllRows
+pub mod Measuring
+pub mod Writing
+pub mod Made

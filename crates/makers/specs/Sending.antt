@@ -1,16 +1,19 @@
 -- Sending: rules written one after another, each where it fits, with the length and the number of rules so far.
 use Prim.Native.Nat.{ℕ, _+_, _*_, _≤_, _<_}
 use native.Mathlib.Omega.{arith}
-use mathlib.Core.Path.{_≡_, refl, sym, _∙_}
+use mathlib.Core.Path.{_≡_, refl, sym, ap, _∙_}
+use mathlib.Core.Bool.{Bool, true, false}
 use mathlib.Core.List.{List, [], _∷_, _++_, map, map-append}
 use lib.ListN.{length, take, length-append}
 use lib.Seq.{length-take-le}
+use Rattle.meaning.specs.Lists.{opt}
 use Rattle.meaning.specs.Rows.{Row}
 use Rattle.meaning.specs.Rules.{Rule}
 use Rattle.meaning.specs.Families.{reduceFor}
 use Rattle.meaning.specs.Bytes.{encodeRule, encodeRules}
 use Rattle.hand.specs.declared.Hand.{Hand}
-use Rattle.hand.specs.Hand.{ruleIn, Sane, sane-bytes}
+use Rattle.hand.specs.Hand.{ruleIn, rule-length, Sane, Holding, sane-bytes}
+use Rattle.meaning.specs.Encoded.{encodeRule-length}
 use Rattle.books.specs.Records.{Puts, ruleRecord, ruleRecord-is}
 use Rattle.books.specs.Put.{putAt, putIn, putAt-length, putAt-nothing, putAt-putAt, putIn-fits}
 use Rattle.makers.specs.declared.sending.Tally.{Tally}
@@ -88,3 +91,43 @@ send-length h s = sym (length-take-le (3 * h .count) (h .bytes) (send-bytes h s)
 
 pub send-few : (h : Hand) → Sane h → length (take (3 * h .count) (h .bytes)) < 768
 send-few h s = rw (length-take-le (3 * h .count) (h .bytes) (send-bytes h s)) (omega (arith, s .few))
+
+-- ---- the state after some slots, of which each sends at most one rule of at most 32 literals
+
+-- k slots more can be counted
+pub record Countable (t : Tally) (k : ℕ) : Type 0 where
+  pub bytes : t .length + 99 * k ≤ 4294967295
+  pub number : t .rules + k ≤ 4294967295
+
+pub record Sent (k family : ℕ) (rows : List Row) (rs : List Rule) (t : Tally) (old : List ℕ) (t′ : Tally) (new : List ℕ) : Type 0 where
+  pub state : _≡_ {A = State} (t′, new) (sendsFor family rows rs (t, old))
+  pub longer : t′ .length ≤ t .length + 99 * k
+  pub more : t′ .rules ≤ t .rules + k
+
+-- the tally after a rule of a sane hand
+pub send-more : (h : Hand) (t t′ : Tally) (old new : List ℕ) → Sane h → _≡_ {A = State} (t′, new) (send (ruleIn h) (t, old))
+    → (t′ .length ≤ t .length + 99) × (t′ .rules ≡ t .rules + 1)
+unfolding send
+send-more h t t′ old new s e =
+    let length-is : t′ .length ≡ t .length + length (encodeRule (ruleIn h)) = ap (λ (x : State). x .0 .length) e in
+    (omega (arith, encodeRule-length (ruleIn h), rule-length h, s .few), ap (λ (x : State). x .0 .rules) e)
+
+module _ (family : ℕ) (rows : List Row) (ruled : Bool) (h : Hand) (t : Tally) (old : List ℕ) where
+  pub slot-some : (r : Hand) (t′ : Tally) (new : List ℕ) → ruled ≡ true → Holding (reduceFor family rows (ruleIn h)) r
+      → _≡_ {A = State} (t′, new) (send (ruleIn r) (t, old)) → Sent 1 family rows (opt ruled (ruleIn h)) t old t′ new
+  unfolding sendsFor sends
+  slot-some r t′ new e hd q =
+      let grown = send-more r t t′ old new (hd .sane) q in
+      record { state = q ∙ rw (e, hd .rule); longer = omega arith; more = omega arith }
+
+  pub slot-none : ruled ≡ false → Sent 1 family rows (opt ruled (ruleIn h)) t old t old
+  unfolding sendsFor sends
+  slot-none e = record { state = rw e; longer = omega arith; more = omega arith }
+
+-- what can be counted after k slots
+pub sent-countable : (k j n family : ℕ) (rows : List Row) (rs : List Rule) (t t′ : Tally) (old new : List ℕ) → Sent k family rows rs t old t′ new
+    → Countable t n → k + j ≤ n → Countable t′ j
+sent-countable k j n family rows rs t t′ old new s c h = record {
+  bytes = omega (arith, s .longer, c .bytes);
+  number = omega (arith, s .more, c .number);
+}

@@ -1,71 +1,87 @@
-// The slots of a row: what its rules are made of.
+// The slots of a row: each gives a rule or none. Left and right at each setting, and the middle.
 ghost use mathlib.Core.Path.{_≡_};
-ghost use mathlib.Core.List.{_++_};
-ghost use Prim.Native.Nat.{_+_, _*_, _-_, _≤_, _<_};
+ghost use Prim.Native.Nat.{_+_, _-_, _≤_, _<_};
 ghost use lib.Dec.{ltb};
 ghost use lib.ListN.{length};
-ghost use Rattle.meaning.specs.Lists.{opt};
-ghost use Rattle.meaning.specs.Rules.{atMost, atLeast};
-ghost use Rattle.meaning.specs.General.{differs, earlier};
-ghost use Rattle.hand.specs.Hand.{ruleIn, Holding};
-ghost use Rattle.makers.specs.Slots.{Spare};
+ghost use Rattle.meaning.specs.Lists.{opt, each};
+ghost use Rattle.meaning.specs.Rows.{rowsOf};
+ghost use Rattle.hand.specs.Hand.{ruleIn};
+ghost use Rattle.hand.specs.Known.{Ready};
+ghost use Rattle.makers.specs.Sending.{Countable, Sent};
+ghost use Rattle.makers.specs.Edges.{ruledOf, edgeAt, Sides};
+use crate::earlier::byte;
+use crate::earlier::differ;
+use crate::earlier::differs_before;
+use crate::sending::Tally;
+use crate::sending::send;
 use hand::Hand;
-use hand::empty;
 use hand::push;
+use hand::reduced;
 
-// A setting as a byte.
-fn byte(i: usize) -> u8
-    requires { ⌜ i < 256 ⌝ }
-    ensures { λ r. ⌜ r ≡ i ⌝ }
+// Sends the rule in hand, reduced for the family, if its slot has a rule.
+pub fn slot(
+    ruled: bool,
+    h: Hand,
+    family: usize,
+    table: &[u8],
+    l: usize,
+    room: &mut [u8],
+    tally: Tally,
+) -> Tally
+    requires { ⌜ Ready h l (now table) × Countable tally 1 ⌝ }
+    ensures { λ r. ⌜ Sent 1 family (rowsOf l (now (table .entry))) (opt ruled (ruleIn h)) tally (now (room .entry)) r (now (room .exit)) ⌝ }
 {
-    i as u8
-}
-
-// The rule in hand, or setting i at most v-1, where v is above 0.
-fn under(h: Hand, i: u8, v: u8) -> Hand
-    requires { ⌜ Spare h 1 ⌝ }
-    ensures { λ r. ⌜ Holding (ruleIn h ++ opt (ltb 0 v) (atMost i (v - 1))) r ⌝ }
-{
-    if v == 0 {
-        return h;
+    if ruled {
+        let rule = reduced(h, family, table, l);
+        return send(rule, room, tally);
     }
-    push(h, i, 0, v - 1)
+    tally
 }
 
-// The rule in hand, or setting i at least v+1, where v is below n-1.
-fn over(h: Hand, i: u8, n: u8, v: u8) -> Hand
-    requires { ⌜ Spare h 1 ⌝ }
-    ensures { λ r. ⌜ Holding (ruleIn h ++ opt (ltb (v + 1) n) (atLeast i (v + 1))) r ⌝ }
+// Is v + 1 below w?
+pub fn apart(v: u8, w: u8) -> bool
+    ensures { λ r. ⌜ r ≡ ltb (v + 1) w ⌝ }
 {
-    if n <= v {
-        return h;
+    if w <= v {
+        return false;
     }
-    let w = v + 1;
-    if n <= w {
-        return h;
+    v + 1 < w
+}
+
+// Has a setting of n values a rule at v? On the left side (1) where v is above 0, on the right side (0) where v is below n-1.
+fn ruled(side: u8, n: u8, v: u8) -> bool
+    ensures { λ r. ⌜ r ≡ ruledOf side n v ⌝ }
+{
+    if side == 0 {
+        return apart(v, n);
     }
-    push(h, i, 1, w)
+    0 < v
 }
 
-// The rule in hand, or setting i, of n values, differs from v.
-fn differ(h: Hand, i: u8, n: u8, v: u8) -> Hand
-    requires { ⌜ Spare h 2 ⌝ }
-    ensures { λ r. ⌜ Holding (ruleIn h ++ differs i n v) r ⌝ }
+// The left (1) or the right rules (0) of a row, from setting `from` on.
+pub fn edges(
+    sizes: &[u8],
+    row: &[u8],
+    side: u8,
+    from: usize,
+    family: usize,
+    table: &[u8],
+    room: &mut [u8],
+    tally: Tally,
+) -> Tally
+    requires { ⌜ Sides (now sizes) (now table) (now row) side from × Countable tally 16 ⌝ }
+    ensures { λ r. ⌜ Sent 16 family (rowsOf (length (now (sizes .entry))) (now (table .entry))) (each (edgeAt side (now (sizes .entry)) (now (row .entry))) from (length (now (sizes .entry)) - from)) tally (now (room .entry)) r (now (room .exit)) ⌝ }
 {
-    let below = under(h, i, v);
-    over(below, i, n, v)
-}
-
-// Differs from the row at every setting before `end`.
-fn differs_before(sizes: &[u8], row: &[u8], end: usize) -> Hand
-    requires { ⌜ (end ≤ length (now sizes)) × (end ≤ length (now row)) × (end ≤ 16) ⌝ }
-    ensures { λ r. ⌜ Holding (earlier (now (sizes .entry)) (now (row .entry)) end) r ⌝ }
-{
-    let mut h = empty();
-    let mut i: usize = 0;
-    while i < end {
-        h = differ(h, byte(i), sizes[i], row[i]);
+    let mut h = differs_before(sizes, row, from);
+    let mut i = from;
+    let mut sent = tally;
+    while i < sizes.len() {
+        let setting = byte(i);
+        let rule = push(h, setting, side, row[i]);
+        let open = ruled(side, sizes[i], row[i]);
+        sent = slot(open, rule, family, table, sizes.len(), room, sent);
+        h = differ(h, setting, sizes[i], row[i]);
         i += 1;
     }
-    h
+    sent
 }

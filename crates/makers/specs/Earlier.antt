@@ -1,4 +1,4 @@
--- Slots: a rule in hand that may get one literal more, and what differs from a row before a setting.
+-- Earlier: what differs from a row before a setting, made in hand.
 use Prim.Native.Nat.{ℕ, zero, suc, _+_, _*_, _-_, _≤_, _<_}
 use native.Mathlib.Numerals.{add-one}
 use native.Mathlib.Omega.{arith}

@@ -1,8 +1,8 @@
--- `makers::slots::over` meets its contract: where v + 1 is no value nothing is added, else the literal.
-use Rattle.makers.specs.Slots.{over-far, over-none, over-some}
+-- `makers::earlier::over` meets its contract: where v + 1 is no value nothing is added, else the literal.
+use Rattle.makers.specs.Earlier.{over-far, over-none, over-some}
 use borrow.Author.Needs.{needs}
-use Rattle.makers.proofs.slots.over.Statement.{statement}
-use Rattle.makers.proofs.slots.over.Tie as tie
+use Rattle.makers.proofs.earlier.over.Statement.{statement}
+use Rattle.makers.proofs.earlier.over.Tie as tie
 
 returns : tie.Need-returns
 returns c = search over-far

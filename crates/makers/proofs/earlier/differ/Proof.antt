@@ -1,8 +1,8 @@
--- `makers::slots::differ` meets its contract: the two literals, each where it is one, are what differs.
-use Rattle.makers.specs.Slots.{differ-few, differ-both}
+-- `makers::earlier::differ` meets its contract: the two literals, each where it is one, are what differs.
+use Rattle.makers.specs.Earlier.{differ-few, differ-both}
 use borrow.Author.Needs.{needs}
-use Rattle.makers.proofs.slots.differ.Statement.{statement}
-use Rattle.makers.proofs.slots.differ.Tie as tie
+use Rattle.makers.proofs.earlier.differ.Statement.{statement}
+use Rattle.makers.proofs.earlier.differ.Tie as tie
 
 under-requires : tie.Need-under-requires
 under-requires c κs = search needs

@@ -1,8 +1,8 @@
--- `makers::slots::under` meets its contract: with v = 0 nothing is added, else the literal.
-use Rattle.makers.specs.Slots.{under-none, under-some}
+-- `makers::earlier::under` meets its contract: with v = 0 nothing is added, else the literal.
+use Rattle.makers.specs.Earlier.{under-none, under-some}
 use borrow.Author.Needs.{needs}
-use Rattle.makers.proofs.slots.under.Statement.{statement}
-use Rattle.makers.proofs.slots.under.Tie as tie
+use Rattle.makers.proofs.earlier.under.Statement.{statement}
+use Rattle.makers.proofs.earlier.under.Tie as tie
 
 returns : tie.Need-returns
 returns c = search under-none

@@ -1,9 +1,9 @@
--- `makers::slots::differs_before` meets its contract. The invariant: in hand is what differs before setting i.
+-- `makers::earlier::differs_before` meets its contract. The invariant: in hand is what differs before setting i.
 use Prim.Native.Nat.{_-_}
-use Rattle.makers.specs.Slots.{Differs, differs-start, differs-few, differs-on, differs-end}
+use Rattle.makers.specs.Earlier.{Differs, differs-start, differs-few, differs-on, differs-end}
 use borrow.Author.Needs.{needs}
-use Rattle.makers.proofs.slots.differs_before.Statement.{statement}
-use Rattle.makers.proofs.slots.differs_before.Tie as tie
+use Rattle.makers.proofs.earlier.differs_before.Statement.{statement}
+use Rattle.makers.proofs.earlier.differs_before.Tie as tie
 
 abbrev Inv-loop : tie.InvT-loop
 Inv-loop sizes row end h₀ i₀ h i = Differs sizes row end i h

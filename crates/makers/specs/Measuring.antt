@@ -1,0 +1,89 @@
+-- Measuring: the length of a table's book, known before a byte is written.
+use Prim.Native.Nat.{ℕ, _+_, _≤_, _<_}
+use native.Mathlib.Omega.{arith}
+use mathlib.Core.Path.{_≡_, refl, sym, ap, _∙_}
+use mathlib.Core.List.{List, [], _∷_, map}
+use lib.ListN.{length, length-append, length-map}
+use Rattle.meaning.specs.Rows.{Row, Sizes}
+use Rattle.meaning.specs.Rules.{Rule}
+use Rattle.meaning.specs.General.{general}
+use Rattle.meaning.specs.Families.{reduceFor, rulesFor}
+use Rattle.meaning.specs.Bytes.{encodeRule, encodeRules}
+use Rattle.meaning.specs.Encoded.{encodeRule-length}
+use Rattle.meaning.specs.Reduced.{Part, done, skip, hold, Parts, ended, next}
+use Rattle.meaning.specs.Made.{rules-parts}
+use Rattle.makers.specs.declared.sending.Tally.{Tally}
+use Rattle.makers.specs.Sending.{State, sends-length, sends-rules, sendsFor, Sent}
+
+-- the rules so many, and the book so long
+pub record Measured (ns : Sizes) (family : ℕ) (rows : List Row) (t : Tally) : Type 0 where
+  pub length-is : t .length ≡ 9 + length (encodeRules (rulesFor family ns rows))
+  pub rules-is : t .rules ≡ length (rulesFor family ns rows)
+  pub few : t .rules ≤ 16896
+
+-- as long as the book at least, and just as long where the space is less
+pub record Needed (ns : Sizes) (family : ℕ) (rows : List Row) (space : ℕ) (t : Tally) : Type 0 where
+  pub enough : 9 + length (encodeRules (rulesFor family ns rows)) ≤ t .length
+  pub exact : space < t .length → t .length ≡ 9 + length (encodeRules (rulesFor family ns rows))
+  pub rules-is : t .rules ≡ length (rulesFor family ns rows)
+  pub few : t .rules ≤ 16896
+
+pub measured-sent : (ns : Sizes) (family : ℕ) (rows : List Row) (t : Tally) (old new : List ℕ)
+    → Sent 16896 family rows (general ns rows) (record { length = 7; rules = 0 }) old t new → Measured ns family rows (record { length = t .length + 2; rules = t .rules })
+unfolding sendsFor rulesFor
+measured-sent ns family rows t old new s =
+    let rs = map (reduceFor family rows) (general ns rows) in
+    let from : State = (record { length = 7; rules = 0 }, old) in
+    record {
+      length-is = omega (arith, ap (λ (x : State). x .0 .length) (s .state), sends-length rs from);
+      rules-is = omega (arith, ap (λ (x : State). x .0 .rules) (s .state), sends-rules rs from);
+      few = s .more;
+    }
+
+part-length : {r s : Rule} → Part r s → length r ≤ length s
+part-length done = omega arith
+part-length (skip p) = omega (arith, part-length p)
+part-length (hold p) = omega (arith, part-length p)
+
+parts-length : {rs ss : List Rule} → Parts rs ss → length (encodeRules rs) ≤ length (encodeRules ss)
+unfolding encodeRules
+parts-length ended = omega arith
+parts-length (next {r = r} {s = s} {rs = rs} {ss = ss} p q) =
+    omega (
+      arith,
+      length-append (encodeRule r) (encodeRules rs),
+      length-append (encodeRule s) (encodeRules ss),
+      encodeRule-length r,
+      encodeRule-length s,
+      part-length p,
+      parts-length q,
+    )
+
+general-is : (ns : Sizes) (rows : List Row) → rulesFor 0 ns rows ≡ general ns rows
+unfolding rulesFor reduceFor
+general-is ns rows = go (general ns rows)
+  where
+    go : (rs : List Rule) → map (reduceFor 0 rows) rs ≡ rs
+    go [] = refl
+    go (r ∷ rs) = ap (λ (l : List Rule). r ∷ l) (go rs)
+
+rules-count : (family : ℕ) (ns : Sizes) (rows : List Row) → length (rulesFor family ns rows) ≡ length (general ns rows)
+unfolding rulesFor
+rules-count family ns rows = length-map (general ns rows) (reduceFor family rows)
+
+module _ (ns : Sizes) (family : ℕ) (rows : List Row) (space : ℕ) (t : Tally) where
+  pub needed-bound : Measured ns 0 rows t → t .length ≤ space → Needed ns family rows space t
+  needed-bound m h =
+      let shorter = parts-length (rules-parts family ns rows) in
+      record {
+        enough = omega (arith, m .length-is, ap (λ (l : List Rule). length (encodeRules l)) (general-is ns rows));
+        exact = λ k. absurd (omega arith);
+        rules-is = m .rules-is ∙ rules-count 0 ns rows ∙ sym (rules-count family ns rows);
+        few = m .few;
+      }
+
+  pub needed-exact : Measured ns family rows t → Needed ns family rows space t
+  needed-exact m = record { enough = omega (arith, m .length-is); exact = λ k. m .length-is; rules-is = m .rules-is; few = m .few }
+
+  pub needed-general : Measured ns 0 rows t → family ≡ 0 → Needed ns family rows space t
+  needed-general m e = needed-exact (rw e m)
