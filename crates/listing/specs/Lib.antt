@@ -3,3 +3,10 @@ pub mod Cursors
 pub mod CursorTests
 pub mod Prefixes
 pub mod Moves
+pub mod Standing
+pub mod Early
+pub mod Literals
+pub mod Interval
+pub mod Judging
+pub mod Forbidding
+pub mod Windows

@@ -1,8 +1,8 @@
 -- A dead prefix stays dead below, and a dead prefix of full length is a combination that is not permitted.
 use Prim.Native.Nat.{ℕ, _+_, _≤_, _<_}
 use native.Mathlib.Omega.{arith}
-use mathlib.Core.Path.{_≡_, refl}
-use mathlib.Core.Bool.{Bool, true, false, not, _&&_, _||_}
+use mathlib.Core.Path.{_≡_, refl, sym}
+use mathlib.Core.Bool.{Bool, true, false, not, _&&_, _||_, or-assoc}
 use mathlib.Core.Logic.{_↔_, inl, inr}
 use mathlib.Core.List.{List, [], _∷_, _++_}
 use lib.Dec.{T, ltb, ltb→lt}
@@ -44,6 +44,11 @@ decided-more k m h (c ∷ r) t =
 pub dead-cons : (r : Rule) (rules : List Rule) (p : Row) → dead (r ∷ rules) p ≡ (decided (length p) r && not (met r p)) || dead rules p
 unfolding dead
 dead-cons r rules p = refl
+
+pub dead-append : (rules more : List Rule) (p : Row) → dead (rules ++ more) p ≡ dead rules p || dead more p
+unfolding dead
+dead-append [] more p = refl
+dead-append (r ∷ rules) more p = rw (dead-append rules more p) (sym (or-assoc (decided (length p) r && not (met r p)) (dead rules p) (dead more p)))
 
 pub dead-prefix : (rules : List Rule) (p q : Row) → T (dead rules p) → T (dead rules (p ++ q))
 unfolding dead

@@ -1,0 +1,225 @@
+// One scan of the rules below a live prefix: which values may follow it, and which of the rules can still make a prefix below dead.
+use crate::cursor::Cursor;
+ghost use mathlib.Core.Path.{_≡_};
+ghost use mathlib.Core.Bool.{false};
+ghost use mathlib.Core.List.{[], _∷_};
+ghost use Prim.Native.Nat.{_+_, _*_, _≤_, _<_};
+ghost use lib.ListN.{length};
+ghost use Rattle.meaning.specs.Bytes.{endAt, ruleAt, rulesIn};
+ghost use Rattle.meaning.specs.Listing.{dead};
+ghost use Rattle.listing.specs.Cursors.{prefixOf};
+ghost use Rattle.listing.specs.Prefixes.{Plain};
+ghost use Rattle.listing.specs.Standing.{Stands};
+ghost use Rattle.listing.specs.Early.{holdsBy, earlyOf};
+ghost use Rattle.listing.specs.Interval.{intervalOf};
+ghost use Rattle.listing.specs.Judging.{Judges};
+ghost use Rattle.listing.specs.Forbidding.{Forbids};
+ghost use Rattle.listing.specs.Windows.{widenOf, Window, Scans};
+
+// A byte as a number.
+pub fn wide(x: u8) -> usize
+    ensures { λ r. ⌜ (r ≡ x) × (r < 256) ⌝ }
+{
+    x as usize
+}
+
+// What the literals on the settings of a prefix say: one of them holds; or none does, and so many are left from a place on.
+pub enum Passed {
+    Holds,
+    Left(usize, usize),
+}
+
+// What a rule asks of the value after a prefix: values from low up to below high are forbidden; if it lasts, it can still make a
+// prefix below dead.
+pub struct Judged {
+    pub lasts: bool,
+    pub low: usize,
+    pub high: usize,
+}
+
+// Some of the rules in a row: from number `first`, whose mark is at place `at`, up to below number `end`.
+pub struct Span {
+    pub at: usize,
+    pub first: usize,
+    pub end: usize,
+}
+
+// What a scan gives: 0 for each value with which the prefix is dead; and the rules that matter below, their number and the place
+// of the first.
+pub struct Scanned {
+    pub allowed: [u8; 64],
+    pub at: usize,
+    pub rules: usize,
+}
+
+// Does the literal of this sign and bound hold of the value?
+fn holds(sign: u8, bound: u8, value: u8) -> bool
+    ensures { λ r. ⌜ r ≡ holdsBy sign bound value ⌝ }
+{
+    if sign == 0 {
+        return value <= bound;
+    }
+    bound <= value
+}
+
+// Of `count` literals from place p on, by setting ascending, those on the settings of the prefix.
+fn early(book: &[u8], p: usize, count: usize, cur: Cursor) -> Passed
+    requires { ⌜ Plain cur × (p + 3 * count ≤ length (now book)) ⌝ }
+    ensures { λ r. ⌜ r ≡ earlyOf (now (book .entry)) (prefixOf cur) p count ⌝ }
+{
+    let len = cur.len;
+    let values = cur.values;
+    let mut at = p;
+    let mut left = count;
+    while 0 < left {
+        let i = wide(book[at]);
+        if len <= i {
+            return Passed::Left(at, left);
+        }
+        if holds(book[at + 1], book[at + 2], values[i]) {
+            return Passed::Holds;
+        }
+        at += 3;
+        left -= 1;
+    }
+    Passed::Left(at, 0)
+}
+
+// What the last literals of a rule, `left` of them from place p on and all on one setting, forbid there.
+fn interval(book: &[u8], p: usize, left: usize) -> Judged
+    requires { ⌜ p + 3 * left ≤ length (now book) ⌝ }
+    ensures { λ r. ⌜ r ≡ intervalOf (now (book .entry)) p left ⌝ }
+{
+    if left == 0 {
+        return Judged {
+            lasts: false,
+            low: 0,
+            high: 64,
+        };
+    }
+    let bound = wide(book[p + 2]);
+    if book[p + 1] != 0 {
+        return Judged {
+            lasts: false,
+            low: 0,
+            high: bound,
+        };
+    }
+    if left == 1 {
+        return Judged {
+            lasts: false,
+            low: bound + 1,
+            high: 64,
+        };
+    }
+    Judged {
+        lasts: false,
+        low: bound + 1,
+        high: wide(book[p + 5]),
+    }
+}
+
+// What the rule at place `at` asks below the prefix, which it does not make dead. Its last literal tells at once where it is met
+// already; a rule that goes on behind the next setting forbids nothing yet.
+fn judge(book: &[u8], at: usize, cur: Cursor) -> Judged
+    requires { ⌜ Plain cur × Stands (now book) at × (dead (ruleAt (now book) at ∷ []) (prefixOf cur) ≡ false) ⌝ }
+    ensures { λ r. ⌜ Judges (now (book .entry)) at (prefixOf cur) r ⌝ }
+{
+    let none = Judged {
+        lasts: false,
+        low: 0,
+        high: 0,
+    };
+    let count = wide(book[at + 2]);
+    if count == 0 {
+        return none;
+    }
+    let len = cur.len;
+    let last = wide(book[at + 3 * count]);
+    if last < len {
+        return none;
+    }
+    match early(book, at + 3, count, cur) {
+        Passed::Holds => none,
+        Passed::Left(p, left) => {
+            if len < last {
+                return Judged {
+                    lasts: true,
+                    low: 0,
+                    high: 0,
+                };
+            }
+            interval(book, p, left)
+        }
+    }
+}
+
+// Forbids the values from low up to below high.
+fn forbid(allowed: &mut [u8; 64], low: usize, high: usize)
+    requires { ⌜ (length (now allowed) ≡ 64) × (high ≤ 64) ⌝ }
+    ensures { λ _. ⌜ Forbids (now (allowed .entry)) low high (now (allowed .exit)) ⌝ }
+{
+    let mut v = low;
+    while v < high {
+        allowed[v] = 0;
+        v += 1;
+    }
+}
+
+// The span with rule i at place `at` in it, if it lasts.
+fn widen(span: Span, lasts: bool, at: usize, i: usize) -> Span
+    requires { ⌜ i < 65536 ⌝ }
+    ensures { λ r. ⌜ r ≡ widenOf span lasts at i ⌝ }
+{
+    if !lasts {
+        return span;
+    }
+    if span.end == 0 {
+        return Span {
+            at,
+            first: i,
+            end: i + 1,
+        };
+    }
+    Span {
+        at: span.at,
+        first: span.first,
+        end: i + 1,
+    }
+}
+
+// Where the rule at place `at` ends.
+fn after(book: &[u8], at: usize) -> usize
+    requires { ⌜ endAt (now book) at ≤ length (now book) ⌝ }
+    ensures { λ r. ⌜ r ≡ endAt (now (book .entry)) at ⌝ }
+{
+    let count = wide(book[at + 2]);
+    at + 3 + 3 * count
+}
+
+// Scans `rules` rules from place `from` on, below the live prefix cur.
+pub fn scan(book: &[u8], from: usize, rules: usize, cur: Cursor) -> Scanned
+    requires { ⌜ Plain cur × Window (now book) (dead (rulesIn (now book))) (prefixOf cur) from rules × (dead (rulesIn (now book)) (prefixOf cur) ≡ false) ⌝ }
+    ensures { λ r. ⌜ Scans (now (book .entry)) (dead (rulesIn (now (book .entry)))) (prefixOf cur) r ⌝ }
+{
+    let mut allowed = [1u8; 64];
+    let mut span = Span {
+        at: from,
+        first: 0,
+        end: 0,
+    };
+    let mut at = from;
+    let mut i: usize = 0;
+    while i < rules {
+        let j = judge(book, at, cur);
+        forbid(&mut allowed, j.low, j.high);
+        span = widen(span, j.lasts, at, i);
+        at = after(book, at);
+        i += 1;
+    }
+    Scanned {
+        allowed,
+        at: span.at,
+        rules: span.end - span.first,
+    }
+}
