@@ -20,12 +20,9 @@ use Rattle.hand.specs.Hand.{ruleIn, Sane, Holding, rule-length, opt-coun
 use Rattle.hand.specs.Known.{Known, At, literals-on, literals-none, at-start, at-on, Left, left-start, left-on, left-known}
 use Rattle.hand.specs.Joined.{rowIn, Joins}
 
--- common, or the first scarce one that holds
-abbrev pub kept : Bool → Bool → Bool → Bool
-kept scarce found holds = not scarce || (not found && holds)
-
-abbrev pub foundBy : Bool → Bool → Bool → Bool
-foundBy scarce found holds = found || (scarce && holds)
+-- the scarce one that stays is the first that holds
+abbrev pub chosen : Bool → Bool → Bool → Bool
+chosen rare found holds = rare && (not found && holds)
 
 -- what is kept of the literals left
 unfoldable pub keptOf : Side → Row → Bool → Rule → Rule
@@ -37,11 +34,11 @@ kept-nil s m true = refl
 kept-nil s m false = refl
 
 kept-cons : (s : Side) (m : Row) (found : Bool) (c : Literal) (r : Rule)
-    → keptOf s m found (c ∷ r) ≡ opt (kept (scarce s c) found (holds c m)) c ++ keptOf s m (foundBy (scarce s c) found (holds c m)) r
+    → keptOf s m found (c ∷ r) ≡ opt (not (scarce s c) || chosen (scarce s c) found (holds c m)) c ++ keptOf s m (found || chosen (scarce s c) found (holds c m)) r
 unfolding keptOf common commonAnd
 kept-cons s m found c r = go (scarce s c) found (holds c m) (common s r) (commonAnd s m r)
   where
-    go : (a f t : Bool) (x y : Rule) → cond f (cond a x (c ∷ x)) (cond a (cond t (c ∷ x) y) (c ∷ y)) ≡ opt (kept a f t) c ++ cond (foundBy a f t) x y
+    go : (a f t : Bool) (x y : Rule) → cond f (cond a x (c ∷ x)) (cond a (cond t (c ∷ x) y) (c ∷ y)) ≡ opt (not a || chosen a f t) c ++ cond (f || chosen a f t) x y
     go false false t x y = refl
     go false true t x y = refl
     go true true t x y = refl
@@ -75,16 +72,16 @@ module _ {s : Side} {l : ℕ} {b values : List ℕ} {start : Bool} {count : ℕ}
   }
 
   module _ {found : Bool} {out : Hand} {p j : ℕ} (m : KeptAt s l b values start count found out p j) where
-    pub kept-on : {a t k f : Bool} {next : Hand} → j < count → a ≡ scarce s (literalAt b p) → t ≡ holds (literalAt b p) (take l values)
-        → k ≡ kept a found t → f ≡ foundBy a found t → Holding (ruleIn out ++ opt k (literalAt b p)) next
+    pub kept-on : {a t u k f : Bool} {next : Hand} → j < count → a ≡ scarce s (literalAt b p) → t ≡ holds (literalAt b p) (take l values)
+        → u ≡ chosen a found t → k ≡ (not a || u) → f ≡ (found || u) → Holding (ruleIn out ++ opt k (literalAt b p)) next
         → KeptAt s l b values start count f next (p + 3) (j + 1)
-    kept-on {a} {t} {k} {f} {next} h ea et ek ef e = record {
+    kept-on {a} {t} {u} {k} {f} {next} h ea et eu ek ef e = record {
       place = at-on (m .place) h;
       left = left-on (m .left) h;
       sane = e .sane;
       few = omega (arith, m .few, opt-count out k (literalAt b p) next e);
       whole = m .whole
-          ∙ rw (literals-on b count p j h, kept-cons, ← ea, ← et, ← ek, ← ef, e .rule)
+          ∙ rw (literals-on b count p j h, kept-cons, ← ea, ← et, ← eu, ← ek, ← ef, e .rule)
           (sym (append-assoc (ruleIn out) (opt k (literalAt b p)) (keptOf s (take l values) f (literalsAt b (p + 3) (count - (j + 1))))));
     }
 
@@ -100,9 +97,6 @@ module _ {s : Side} {l : ℕ} {b values : List ℕ} {start : Bool} {count : ℕ}
         let all : keptOf s (take l values) (not any) (literalsAt b 0 count) ≡ ruleIn out =
         rw (← e) (m .whole ∙ rw (literals-none b count p j h, kept-nil) (append-nil (ruleIn out))) in
         record { sane = m .sane; rule = sym all ∙ kept-for s (take l values) (literalsAt b 0 count) any }
-
-pub sign-at : {h : Hand} {p j : ℕ} → Sane h → At (h .count) p j → j < h .count → getD (h .bytes) (p + 1) 0 < 2
-sign-at {h} {p} {j} s a k = rw (a .place) (s .signs j k)
 
 known-common : (s : Side) (l : ℕ) (r : Rule) → Known l r → Known l (common s r)
 unfolding common

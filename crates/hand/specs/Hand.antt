@@ -13,7 +13,7 @@ use Rattle.meaning.specs.Lists.{opt}
 use Rattle.meaning.specs.Rules.{Literal, Rule}
 use Rattle.meaning.specs.Bytes.{encodeLiterals, literal, literalAt, literalsAt}
 use Rattle.hand.specs.declared.Hand.{Hand}
-use Rattle.hand.specs.Literals.{literals-length, literals-same, literals-more, literals-bytes}
+use Rattle.meaning.specs.Literals.{literals-length, literals-same, literals-more, literals-bytes}
 
 abbrev pub ruleIn : Hand → Rule
 ruleIn h = literalsAt (h .bytes) 0 (h .count)

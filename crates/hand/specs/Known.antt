@@ -39,6 +39,9 @@ module _ {count : ℕ} where
     pub at-fits : p + 3 ≤ 96
     at-fits = omega (arith, a .place, a .few)
 
+pub sign-at : {h : Hand} {p j : ℕ} → Sane h → At (h .count) p j → j < h .count → getD (h .bytes) (p + 1) 0 < 2
+sign-at {h} {p} {j} s a k = rw (a .place) (s .signs j k)
+
 module _ (b : List ℕ) (count p j : ℕ) where
   pub literals-on : j < count → literalsAt b p (count - j) ≡ literalAt b p ∷ literalsAt b (p + 3) (count - (j + 1))
   unfolding literalsAt

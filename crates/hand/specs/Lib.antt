@@ -1,4 +1,3 @@
-pub mod Literals
 pub mod Hand
 pub mod Known
 pub mod Asked

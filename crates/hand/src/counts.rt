@@ -68,10 +68,10 @@ fn tally(bytes: &[u8; 96], count: usize, table: &[u8], l: usize, counts: &mut [u
 fn less(n: u8, one: u8) -> u8
     ensures { λ r. ⌜ r ≡ n - one ⌝ }
 {
-    if n < one {
-        return 0;
+    if one <= n {
+        return n - one;
     }
-    n - one
+    0
 }
 
 // Takes the literal at `p` out of the counts: of each row in which it holds; the counts behind stay.

@@ -20,7 +20,7 @@ ghost use Rattle.hand.specs.Known.{Known, Ready};
 ghost use Rattle.hand.specs.Number.{one};
 ghost use Rattle.hand.specs.Sides.{side};
 ghost use Rattle.hand.specs.Joined.{rowIn, Joins, picked};
-ghost use Rattle.hand.specs.Chosen.{kept, foundBy};
+ghost use Rattle.hand.specs.Chosen.{chosen};
 
 // What rows combine to, setting by setting: nothing where there is none of them.
 pub struct Joined {
@@ -131,30 +131,27 @@ fn extreme(bytes: &[u8; 96], count: usize, high: bool, table: &[u8], l: usize) -
     e
 }
 
-// Is a literal kept: it is common, or it is the first scarce one (none is found yet) that holds?
-fn kept(scarce: bool, found: bool, holds: bool) -> bool
-    ensures { λ r. ⌜ r ≡ kept scarce found holds ⌝ }
+// Is this literal the scarce one that stays: no earlier one is, and it holds?
+fn chosen(rare: bool, found: bool, holds: bool) -> bool
+    ensures { λ r. ⌜ r ≡ chosen rare found holds ⌝ }
 {
-    if !scarce {
-        return true;
-    }
-    if found {
-        return false;
-    }
-    holds
-}
-
-// Is the scarce one that is kept found, once this literal is passed?
-fn found_by(scarce: bool, found: bool, holds: bool) -> bool
-    ensures { λ r. ⌜ r ≡ foundBy scarce found holds ⌝ }
-{
-    if found {
-        return true;
-    }
-    if scarce {
+    if rare {
+        if found {
+            return false;
+        }
         return holds;
     }
     false
+}
+
+// Is one of the two true?
+fn either(a: bool, b: bool) -> bool
+    ensures { λ r. ⌜ r ≡ (a || b) ⌝ }
+{
+    if a {
+        return true;
+    }
+    b
 }
 
 // The rule in hand with the literal at `p` of `bytes` as its last, if that one is kept.
@@ -184,8 +181,9 @@ fn keep_for(h: Hand, high: bool, e: Joined, l: usize) -> Hand
     while j < count {
         let rare = scarce(&bytes, p, high);
         let holds = holds(&bytes, p, &values[..l]);
-        out = push_if(out, kept(rare, found, holds), &bytes, p);
-        found = found_by(rare, found, holds);
+        let stays = chosen(rare, found, holds);
+        out = push_if(out, either(!rare, stays), &bytes, p);
+        found = either(found, stays);
         p += 3;
         j += 1;
     }

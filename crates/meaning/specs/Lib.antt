@@ -31,6 +31,7 @@ pub mod Bounds
 pub mod Passed
 pub mod Converse
 pub mod Bytes
+pub mod Literals
 pub mod Encoded
 pub mod Listing
 pub mod Examples

@@ -1,9 +1,9 @@
 -- `hand::sides::keep_for` meets its contract. The invariant: what is kept of the literals passed is in hand (KeptAt).
 use borrow.Author.Needs.{needs}
 use Prim.Native.Nat.{_-_}
-use Rattle.hand.specs.Known.{at-fits}
+use Rattle.hand.specs.Known.{at-fits, sign-at}
 use Rattle.hand.specs.Sides.{side}
-use Rattle.hand.specs.Chosen.{KeptAt, kept-start, kept-on, kept-room, kept-known, kept-end, sign-at, prefix-length}
+use Rattle.hand.specs.Chosen.{KeptAt, kept-start, kept-on, kept-room, kept-known, kept-end, prefix-length}
 use Rattle.hand.proofs.sides.keep_for.Statement.{statement}
 use Rattle.hand.proofs.sides.keep_for.Tie as tie
 
@@ -31,14 +31,17 @@ slice-aggregate-holds c = search prefix-length
 holds-requires : tie.Need-holds-requires Inv-loop μ-loop
 holds-requires c κs = search (at-fits, kept-known)
 
-kept-requires : tie.Need-kept-requires Inv-loop μ-loop
-kept-requires c κs = search needs
+chosen-requires : tie.Need-chosen-requires Inv-loop μ-loop
+chosen-requires c κs = search needs
+
+either-requires : tie.Need-either-requires Inv-loop μ-loop
+either-requires c κs = search needs
 
 push-if-requires : tie.Need-push-if-requires Inv-loop μ-loop
 push-if-requires c κs = search (at-fits, kept-room, sign-at)
 
-found-by-requires : tie.Need-found-by-requires Inv-loop μ-loop
-found-by-requires c κs = search needs
+either-requires-2 : tie.Need-either-requires-2 Inv-loop μ-loop
+either-requires-2 c κs = search needs
 
 add-p : tie.Need-add-p Inv-loop μ-loop
 add-p c = search needs
@@ -67,9 +70,10 @@ keep-for-spec =
     array-share-prefix-values
     slice-aggregate-holds
     holds-requires
-    kept-requires
+    chosen-requires
+    either-requires
     push-if-requires
-    found-by-requires
+    either-requires-2
     add-p
     add-j
     loop-less
