@@ -7,7 +7,7 @@ use mathlib.Core.Bool.{true}
 use mathlib.Core.List.{List, [], _∷_}
 use lib.Dec.{T, ltb, lt→ltb}
 use lib.ListN.{length}
-use Rattle.meaning.specs.Rows.{Row, Sizes, at, row, within, before, ascending, allWithin, sound}
+use Rattle.meaning.specs.Rows.{Row, Sizes, at, row, within, before, ascending, allWithin}
 use Rattle.meaning.specs.Tests.{lt-or-le, and-i, is-yes}
 use Rattle.meaning.specs.Order.{before-transitive}
 use Rattle.meaning.specs.Members.{ascending-next}

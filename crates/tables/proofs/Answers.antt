@@ -1,6 +1,5 @@
 -- Answers: what the other arm of `if let Closure::Closed = ..` tells.
 use native.Mathlib.Omega.{arith}
-use mathlib.Core.Path.{_≡_}
 use mathlib.Core.Logic.{_≢_, inl, inr}
 use mathlib.Core.List.{[], _∷_}
 use types.Run.{OneOf}

@@ -11,7 +11,8 @@ use mathlib.Core.Option.{Option, none, some}
 use lib.ListN.{length}
 use Rattle.meaning.specs.Rows.{Row, rowsOf}
 use Rattle.meaning.specs.Rules.{Side, low, high}
-use Rattle.meaning.specs.Closed.{orElse, first, unless, firstPair, firstTriple, tryPair, tryTriple, openPair, openTriple, openRows}
+use Rattle.meaning.specs.Closed.{first, unless, firstPair, firstTriple, tryPair, tryTriple, openPair, openTriple, openRows}
+use Rattle.meaning.specs.Search.{none-some}
 use Rattle.meaning.specs.Flat.{rows-count}
 use Rattle.tables.specs.declared.Closure.{Closure}
 use Rattle.tables.specs.declared.Closure.the-variants.{Closed, Pair, Triple}
@@ -22,6 +23,18 @@ abbrev pub shown : Closure → Option (List ℕ)
 shown Closed = none
 shown (Pair i j) = some (i ∷ j ∷ [])
 shown (Triple i j k) = some (i ∷ j ∷ k ∷ [])
+
+-- it is determined by them
+pub shown-injective : (a b : Closure) → shown a ≡ shown b → a ≡ b
+shown-injective Closed Closed e = refl
+shown-injective Closed (Pair i j) e = absurd (none-some e)
+shown-injective Closed (Triple i j k) e = absurd (none-some e)
+shown-injective (Pair i j) Closed e = absurd (none-some (sym e))
+shown-injective (Pair i j) (Pair i′ j′) e = cc
+shown-injective (Pair i j) (Triple i′ j′ k′) e = let z : _≡_ {A = ℕ} 0 1 = cc in absurd (omega arith)
+shown-injective (Triple i j k) Closed e = absurd (none-some (sym e))
+shown-injective (Triple i j k) (Pair i′ j′) e = let z : _≡_ {A = ℕ} 0 1 = cc in absurd (omega arith)
+shown-injective (Triple i j k) (Triple i′ j′ k′) e = cc
 
 -- ---- one loop for each row number, the last changing fastest
 

@@ -1,25 +1,22 @@
 -- Firsts: what it says that no value is too high and no row too low, or that one is the first.
-use Prim.Native.Nat.{ℕ, zero, suc, _+_, _*_, _/_, _%_, _-_, _≤_, _<_}
+use Prim.Native.Nat.{ℕ, suc, _+_, _%_, _-_, _≤_, _<_}
 use native.Mathlib.Omega.{arith}
-use native.Mathlib.Nat.{mod-lt, mod-eq-of-lt, mul-add-mod-self-right, mul-le-mul-right, div-add-mod', div-lt-iff-lt-mul}
-use mathlib.Core.Path.{_≡_, refl, sym, ap, _∙_}
-use mathlib.Core.Logic.{_↔_, _≢_, inl, inr}
-use mathlib.Core.Bool.{Bool, true, false}
+use mathlib.Core.Path.{_≡_, refl, sym}
+use mathlib.Core.Logic.{_↔_, inl, inr}
+use mathlib.Core.Bool.{Bool}
 use mathlib.Core.List.{List}
-use mathlib.Core.Option.{Option, none, some}
-use lib.Dec.{T, leb, ltb, eqb, ltb→lt, lt→ltb}
+use mathlib.Core.Option.{none, some}
+use lib.Dec.{T, ltb, ltb→lt, lt→ltb}
 use lib.ListN.{length}
-use borrow.Author.Tests.{ltb-true, ltb-false, leb-true, leb-false, eqb-true, eqb-false}
-use Rattle.meaning.specs.Tests.{Case, is, isnt, case, lt-or-le, is-yes, yes-of, no-of}
-use Rattle.meaning.specs.Rows.{Row, Sizes, at, row, within, before, ascending, sound, rowsOf}
-use Rattle.meaning.specs.Closed.{orElse, first, unless}
-use Rattle.meaning.specs.Search.{none-some, unless-none, unless-some, Found, first-none, first-some}
-use Rattle.meaning.specs.Members.{within-at, within-length, ascending-next}
-use Rattle.meaning.specs.Sound.{within-of, allWithin-of, ascending-of}
-use Rattle.meaning.specs.Flat.{rows-count, row-length, row-at, row-ends}
+use Rattle.meaning.specs.Tests.{lt-or-le}
+use Rattle.meaning.specs.Rows.{Row, Sizes, at, row, before, ascending}
+use Rattle.meaning.specs.Closed.{first, unless}
+use Rattle.meaning.specs.Search.{unless-none, unless-some, first-none, first-some}
+use Rattle.meaning.specs.Members.{ascending-next}
+use Rattle.meaning.specs.Sound.{ascending-of}
 use Rattle.tables.specs.declared.Flaw.{Flaw}
-use Rattle.tables.specs.declared.Flaw.the-variants.{Limits, Length, Rows, Value, Order}
-use Rattle.tables.specs.Check.{tryHigh, firstHigh, tryLow, firstLow, rowFlawOf, flawOf}
+use Rattle.tables.specs.declared.Flaw.the-variants.{Value, Order}
+use Rattle.tables.specs.Check.{tryHigh, firstHigh, tryLow, firstLow}
 
 not-less : (a b : ℕ) → (¬ T (ltb a b)) → b ≤ a
 not-less a b n = elim (lt-or-le a b) [ inl h ↦ absurd (n (lt→ltb a b h)) | inr h ↦ h ]

@@ -1,29 +1,24 @@
 -- Flaws: a table over sizes has no flaw just where it is sound and of no more than 512 rows, and each flaw shows where it is.
-use Prim.Native.Nat.{ℕ, zero, suc, _+_, _*_, _/_, _%_, _≤_, _<_}
+use Prim.Native.Nat.{ℕ, _+_, _*_, _/_, _%_, _≤_, _<_}
 use native.Mathlib.Omega.{arith}
-use native.Mathlib.Nat.{mod-lt, mod-eq-of-lt, mul-add-mod-self-right, mul-mod-left, mul-div-cancel, div-add-mod', div-lt-iff-lt-mul}
-use mathlib.Core.Path.{_≡_, refl, sym, ap, _∙_}
-use mathlib.Core.Logic.{_↔_, _≢_, inl, inr}
-use mathlib.Core.Bool.{Bool, true, false, _&&_}
+use native.Mathlib.Nat.{mod-lt, mod-eq-of-lt, mul-add-mod-self-right, div-add-mod', div-lt-iff-lt-mul}
+use mathlib.Core.Path.{_≡_, refl, sym, _∙_}
+use mathlib.Core.Logic.{_↔_, _≢_}
 use mathlib.Core.List.{List}
 use mathlib.Core.Option.{Option, none, some}
 use lib.Dec.{T, leb, eqb}
 use lib.ListN.{length}
 use borrow.Author.Tests.{leb-true, leb-false, eqb-true, eqb-false, le-leb, eq-eqb}
 use Rattle.meaning.specs.Tests.{Case, is, isnt, case, and-l, and-r, and-i}
-use Rattle.meaning.specs.Rows.{Row, Sizes, alike, at, row, ascending, allWithin, sound, rowsOf}
+use Rattle.meaning.specs.Rows.{Row, Sizes, at, row, ascending, allWithin, sound, rowsOf}
 use Rattle.meaning.specs.Closed.{orElse, unless}
 use Rattle.meaning.specs.Search.{none-some, orElse-none}
 use Rattle.meaning.specs.Members.{within-at, row-mem, allWithin-mem}
 use Rattle.meaning.specs.Sound.{within-of, allWithin-of}
-use Rattle.meaning.specs.Alike.{alike-length, alike-at}
 use Rattle.meaning.specs.Flat.{rows-count, row-length, row-at, row-ends}
 use Rattle.tables.specs.declared.Flaw.{Flaw}
 use Rattle.tables.specs.declared.Flaw.the-variants.{Limits, Length, Rows, Value, Order}
-use Rattle.tables.specs.declared.Checked.{Checked}
-use Rattle.tables.specs.declared.Checked.the-variants.{Sound, Flawed}
-use Rattle.tables.specs.Check.{limits, firstHigh, firstLow, rowFlawOf, flawOf, answer, checkedOf}
-use Rattle.tables.specs.Refusals.{Limited, limits-hold}
+use Rattle.tables.specs.Check.{firstHigh, firstLow, rowFlawOf, flawOf}
 use Rattle.tables.specs.Firsts.{Below, High, high-none, high-some, Low, low-none, low-some}
 
 -- past refusals 2 and 3: whole rows, and no more than 512

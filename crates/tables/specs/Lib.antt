@@ -4,7 +4,8 @@ pub mod Combining
 pub mod Closures
 pub mod Check
 pub mod Loops
-pub mod Passes
+pub mod Steps
+pub mod Checking
 pub mod Refusals
 pub mod Firsts
 pub mod Flaws

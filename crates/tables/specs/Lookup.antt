@@ -1,15 +1,15 @@
 -- Lookup: a row is found by halving the rows among which it may be.
-use Prim.Native.Nat.{ℕ, zero, suc, _+_, _*_, _/_, _-_, _≤_, _<_}
+use Prim.Native.Nat.{ℕ, _+_, _*_, _/_, _-_, _≤_, _<_}
 use native.Mathlib.Omega.{arith}
 use native.Mathlib.Nat.{div-le-self}
-use mathlib.Core.Path.{_≡_, refl, sym, _∙_}
+use mathlib.Core.Path.{_≡_, sym, _∙_}
 use mathlib.Core.Logic.{inl, inr}
-use mathlib.Core.Bool.{Bool, true, false, false≢true}
+use mathlib.Core.Bool.{true, false, false≢true}
 use mathlib.Core.List.{List}
 use lib.Dec.{T}
 use lib.ListN.{length, take, drop}
 use Rattle.meaning.specs.Rows.{Row, row, before, ascending, same, isRow, rowsOf}
-use Rattle.meaning.specs.Tests.{Case, is, isnt, case, lt-or-le, yes-of, no-of, is-yes, is-no}
+use Rattle.meaning.specs.Tests.{is, isnt, case, lt-or-le, yes-of, no-of, is-yes, is-no}
 use Rattle.meaning.specs.Order.{before-irreflexive, before-transitive, before-total}
 use Rattle.meaning.specs.Members.{same-refl, same-eq, isRow-mem, row-mem, mem-row}
 use Rattle.meaning.specs.Sound.{ascending-before}

@@ -1,13 +1,10 @@
--- Loops: a search in one, two or three nested loops. What is left of it at each place of the loops.
+-- Loops: a search in a loop. At i, what is left of it is `first f i (n - i)`.
 use Prim.Native.Nat.{ℕ, suc, _+_, _-_, _≤_, _<_}
 use native.Mathlib.Omega.{arith}
-use native.Mathlib.Nat.{sub-zero}
 use native.Mathlib.Numerals.{add-one}
-use mathlib.Core.Path.{_≡_, refl}
+use mathlib.Core.Path.{_≡_}
 use mathlib.Core.Option.{Option, none, some}
-use Rattle.meaning.specs.Closed.{orElse, first, firstPair, firstTriple}
-
--- ---- in one loop: at i, what is left is `first f i (n - i)`
+use Rattle.meaning.specs.Closed.{orElse, first}
 
 module _ {A : Type 0} (f : ℕ → Option A) (n i : ℕ) where
   pub first-end : n ≤ i → first f i (n - i) ≡ none

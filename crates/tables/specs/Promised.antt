@@ -1,15 +1,15 @@
 -- Promised: what the answer of the check says. `Sound` is given just for a sound table, and each refusal shows what is wrong.
-use Prim.Native.Nat.{ℕ, _+_, _*_, _/_, _%_, _≤_, _<_}
+use Prim.Native.Nat.{ℕ, _*_, _/_, _%_, _≤_, _<_}
 use native.Mathlib.Omega.{arith}
 use native.Mathlib.Nat.{mod-lt, mul-mod-left, div-add-mod'}
 use mathlib.Core.Path.{_≡_, refl, sym, ap, _∙_}
-use mathlib.Core.Logic.{_↔_, _≢_}
+use mathlib.Core.Logic.{_↔_}
 use mathlib.Core.Bool.{true, false, false≢true}
 use mathlib.Core.List.{List}
 use mathlib.Core.Option.{Option, none, some}
 use lib.Dec.{T}
 use lib.ListN.{length}
-use Rattle.meaning.specs.Tests.{Case, is, isnt, case, and-r}
+use Rattle.meaning.specs.Tests.{is, isnt, case, and-r}
 use Rattle.meaning.specs.Rows.{alike, at, ascending, allWithin, sound, rowsOf}
 use Rattle.meaning.specs.Closed.{orElse, unless}
 use Rattle.meaning.specs.Alike.{alike-length, alike-at}
@@ -18,9 +18,8 @@ use Rattle.tables.specs.declared.Flaw.{Flaw}
 use Rattle.tables.specs.declared.Flaw.the-variants.{Limits, Length, Rows, Value, Order}
 use Rattle.tables.specs.declared.Checked.{Checked}
 use Rattle.tables.specs.declared.Checked.the-variants.{Sound, Flawed}
-use Rattle.tables.specs.Check.{limits, flawOf, answer, checkedOf}
-use Rattle.tables.specs.Refusals.{Limited, limits-hold}
-use Rattle.tables.specs.Firsts.{High}
+use Rattle.tables.specs.Check.{limits, Limited, flawOf, answer, checkedOf}
+use Rattle.tables.specs.Refusals.{limits-hold}
 use Rattle.tables.specs.Flaws.{Counted, Shows, flaw-none, flaw-some}
 use Rattle.tables.specs.Combining.{Ready}
 
@@ -135,3 +134,10 @@ module _ (n l : ℕ) (table : List ℕ) where
     narrow = c .limited .narrow;
     ordered = record { wide = c .limited .wide; rising = and-r (allWithin (alike n l) (rowsOf l table)) (ascending (rowsOf l table)) (c .rows-sound) };
   }
+
+  -- as a caller of the check has it
+  pub checked-passes : (r : Checked) (k : ℕ) → r ≡ checkedOf n l table → r ≡ Sound k → Passes n l table k
+  checked-passes r k e f = checked-sound k .0 (sym e ∙ f)
+
+  pub checked-ready : (r : Checked) (k : ℕ) → r ≡ checkedOf n l table → r ≡ Sound k → Ready l table
+  checked-ready r k e f = passes-ready k (checked-passes r k e f)

@@ -44,35 +44,35 @@ fn open_pair(table: &[u8], l: usize, high: bool) -> Closure
     Closure::Closed
 }
 
-// Rows i, j and k with the first k after j for which the median is no row.
-fn triple_after(table: &[u8], l: usize, i: usize, j: usize) -> Closure
-    requires { ⌜ Ready l (now table) × Known l (now table) i × Known l (now table) j ⌝ }
-    ensures { λ r. ⌜ shown r ≡ tripleAfter l (now (table .entry)) i j ⌝ }
+// Rows a, b and c with the first c after b for which the median is no row.
+fn triple_after(table: &[u8], l: usize, a: usize, b: usize) -> Closure
+    requires { ⌜ Ready l (now table) × Known l (now table) a × Known l (now table) b ⌝ }
+    ensures { λ r. ⌜ shown r ≡ tripleAfter l (now (table .entry)) a b ⌝ }
 {
     let rows = table.len() / l;
-    let mut k = j + 1;
-    while k < rows {
-        let known = median_is_row(table, l, i, j, k);
+    let mut c = b + 1;
+    while c < rows {
+        let known = median_is_row(table, l, a, b, c);
         if known {
-            k += 1;
+            c += 1;
         } else {
-            return Closure::Triple(i, j, k);
+            return Closure::Triple(a, b, c);
         }
     }
     Closure::Closed
 }
 
-// Rows i, j and k with the first j after i, and then the first k after j, for which the median is no row.
-fn triples_after(table: &[u8], l: usize, i: usize) -> Closure
-    requires { ⌜ Ready l (now table) × Known l (now table) i ⌝ }
-    ensures { λ r. ⌜ shown r ≡ triplesAfter l (now (table .entry)) i ⌝ }
+// Rows a, b and c with the first b after a, and then the first c after b, for which the median is no row.
+fn triples_after(table: &[u8], l: usize, a: usize) -> Closure
+    requires { ⌜ Ready l (now table) × Known l (now table) a ⌝ }
+    ensures { λ r. ⌜ shown r ≡ triplesAfter l (now (table .entry)) a ⌝ }
 {
     let rows = table.len() / l;
-    let mut j = i + 1;
-    while j < rows {
-        let found = triple_after(table, l, i, j);
+    let mut b = a + 1;
+    while b < rows {
+        let found = triple_after(table, l, a, b);
         if let Closure::Closed = found {
-            j += 1;
+            b += 1;
         } else {
             return found;
         }
@@ -86,11 +86,11 @@ fn open_triple(table: &[u8], l: usize) -> Closure
     ensures { λ r. ⌜ shown r ≡ openTriple (rowsOf l (now (table .entry))) ⌝ }
 {
     let rows = table.len() / l;
-    let mut i = 0;
-    while i < rows {
-        let found = triples_after(table, l, i);
+    let mut a = 0;
+    while a < rows {
+        let found = triples_after(table, l, a);
         if let Closure::Closed = found {
-            i += 1;
+            a += 1;
         } else {
             return found;
         }

@@ -6,9 +6,8 @@ use crate::order::compare;
 ghost use mathlib.Core.Path.{_≡_};
 ghost use Prim.Native.Nat.{_+_, _/_, _%_, _≤_, _<_};
 ghost use lib.ListN.{length};
-ghost use Rattle.tables.specs.Check.{limits, flawOf, rowFlawOf, answer, checkedOf};
-ghost use Rattle.tables.specs.Passes.{Passed, Stands, lowFrom};
-ghost use Rattle.tables.specs.Refusals.{Limited};
+ghost use Rattle.tables.specs.Check.{limits, Limited, rowFlawOf, flawOf, answer, checkedOf};
+ghost use Rattle.tables.specs.Steps.{Passed, Stands, lowFrom};
 
 // Is n from 1 to 64, and l from 1 to 16?
 fn in_limits(n: usize, l: usize) -> bool

@@ -11,10 +11,10 @@ use Rattle.tables.proofs.closures.open_triple.Statement.{statement}
 use Rattle.tables.proofs.closures.open_triple.Tie as tie
 
 abbrev Inv-loop : tie.InvT-loop
-Inv-loop table l rows i₀ i = Looking (triplesAfter l table) l table (openTriple (rowsOf l table)) i
+Inv-loop table l rows a₀ a = Looking (triplesAfter l table) l table (openTriple (rowsOf l table)) a
 
 abbrev μ-loop : tie.MeasureT-loop
-μ-loop table l rows i₀ i = rows - i
+μ-loop table l rows a₀ a = rows - a
 
 div-rows : tie.Need-div-rows Inv-loop μ-loop
 div-rows c = search needs
@@ -28,8 +28,8 @@ triples-after-requires c κs = search (is-known, needs)
 enum-told : tie.Need-enum-told Inv-loop μ-loop
 enum-told c = search needs
 
-add-i : tie.Need-add-i Inv-loop μ-loop
-add-i c = search needs
+add-a : tie.Need-add-a Inv-loop μ-loop
+add-a c = search needs
 
 loop-less : tie.Need-loop-less Inv-loop μ-loop
 loop-less c = search needs
@@ -53,7 +53,7 @@ open-triple-spec =
     loop-holds
     triples-after-requires
     enum-told
-    add-i
+    add-a
     loop-less
     loop-again
     returns

@@ -10,16 +10,16 @@ use Rattle.tables.proofs.closures.triple_after.Statement.{statement}
 use Rattle.tables.proofs.closures.triple_after.Tie as tie
 
 abbrev Inv-loop : tie.InvT-loop
-Inv-loop table l i j rows k₀ k = Looking (tryTriple (rowsOf l table) i j) l table (tripleAfter l table i j) k
+Inv-loop table l a b rows c₀ c = Looking (tryTriple (rowsOf l table) a b) l table (tripleAfter l table a b) c
 
 abbrev μ-loop : tie.MeasureT-loop
-μ-loop table l i j rows k₀ k = rows - k
+μ-loop table l a b rows c₀ c = rows - c
 
 div-rows : tie.Need-div-rows Inv-loop μ-loop
 div-rows c = search needs
 
-add-k : tie.Need-add-k Inv-loop μ-loop
-add-k c = search needs
+add-c : tie.Need-add-c Inv-loop μ-loop
+add-c c = search needs
 
 loop-holds : tie.Need-loop-holds Inv-loop μ-loop
 loop-holds c = search triple-look
@@ -27,8 +27,8 @@ loop-holds c = search triple-look
 median-is-row-requires : tie.Need-median-is-row-requires Inv-loop μ-loop
 median-is-row-requires c κs = search (is-known, needs)
 
-add-k-2 : tie.Need-add-k-2 Inv-loop μ-loop
-add-k-2 c = search needs
+add-c-2 : tie.Need-add-c-2 Inv-loop μ-loop
+add-c-2 c = search needs
 
 loop-less : tie.Need-loop-less Inv-loop μ-loop
 loop-less c = search needs
@@ -49,10 +49,10 @@ triple-after-spec =
     Inv-loop
     μ-loop
     div-rows
-    add-k
+    add-c
     loop-holds
     median-is-row-requires
-    add-k-2
+    add-c-2
     loop-less
     loop-again
     returns

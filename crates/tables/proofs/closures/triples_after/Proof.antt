@@ -9,16 +9,16 @@ use Rattle.tables.proofs.closures.triples_after.Statement.{statement}
 use Rattle.tables.proofs.closures.triples_after.Tie as tie
 
 abbrev Inv-loop : tie.InvT-loop
-Inv-loop table l i rows j₀ j = Looking (tripleAfter l table i) l table (triplesAfter l table i) j
+Inv-loop table l a rows b₀ b = Looking (tripleAfter l table a) l table (triplesAfter l table a) b
 
 abbrev μ-loop : tie.MeasureT-loop
-μ-loop table l i rows j₀ j = rows - j
+μ-loop table l a rows b₀ b = rows - b
 
 div-rows : tie.Need-div-rows Inv-loop μ-loop
 div-rows c = search needs
 
-add-j : tie.Need-add-j Inv-loop μ-loop
-add-j c = search needs
+add-b : tie.Need-add-b Inv-loop μ-loop
+add-b c = search needs
 
 loop-holds : tie.Need-loop-holds Inv-loop μ-loop
 loop-holds c = search triples-look
@@ -29,8 +29,8 @@ triple-after-requires c κs = search (is-known, needs)
 enum-told : tie.Need-enum-told Inv-loop μ-loop
 enum-told c = search needs
 
-add-j-2 : tie.Need-add-j-2 Inv-loop μ-loop
-add-j-2 c = search needs
+add-b-2 : tie.Need-add-b-2 Inv-loop μ-loop
+add-b-2 c = search needs
 
 loop-less : tie.Need-loop-less Inv-loop μ-loop
 loop-less c = search needs
@@ -51,11 +51,11 @@ triples-after-spec =
     Inv-loop
     μ-loop
     div-rows
-    add-j
+    add-b
     loop-holds
     triple-after-requires
     enum-told
-    add-j-2
+    add-b-2
     loop-less
     loop-again
     returns

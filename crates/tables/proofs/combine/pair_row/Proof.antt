@@ -1,7 +1,6 @@
 -- The first k values are in the array (Filled). Each way through the loop is a lemma of Combining.
 use Prim.Native.Nat.{_-_}
 use native.Mathlib.Omega.{arith}
-use mathlib.Core.Path.{refl}
 use Rattle.tables.specs.Combining.{sideOf, pairOf, Filled, pair-start, pair-on, filled-end}
 use borrow.Author.Needs.{needs}
 use Rattle.tables.proofs.combine.pair_row.Statement.{statement}

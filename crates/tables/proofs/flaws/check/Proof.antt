@@ -1,7 +1,6 @@
 -- Each way out is a lemma of Refusals.
 use Rattle.tables.specs.Refusals.{limits-known, limits-broken}
 use borrow.Author.Needs.{needs}
-use Rattle.tables.specs.Refusals.{limits-hold}
 use Rattle.tables.proofs.flaws.check.Statement.{statement}
 use Rattle.tables.proofs.flaws.check.Tie as tie
 

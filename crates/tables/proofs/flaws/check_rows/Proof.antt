@@ -1,10 +1,10 @@
--- The invariant: k rows are passed, and what is left of them decides (Checking). Each way through the loop is a lemma of Refusals.
+-- The invariant: k rows are passed, and what is left of them decides (Checking). Each way through the loop is a lemma of Checking.
 use Prim.Native.Nat.{_-_}
 use native.Mathlib.Omega.{arith}
 use lib.ListN.{length}
 use denote.Ref.{now}
-use Rattle.tables.specs.Passes.{Stands}
-use Rattle.tables.specs.Refusals.{Checking, checking-start, checking-stands, checking-whole, checking-high, checking-on, checking-sound, checking-low}
+use Rattle.tables.specs.Steps.{Stands}
+use Rattle.tables.specs.Checking.{Checking, checking-start, checking-stands, checking-whole, checking-high, checking-on, checking-sound, checking-low}
 use Rattle.tables.proofs.flaws.check_rows.Statement.{statement}
 use Rattle.tables.proofs.flaws.check_rows.Tie as tie
 

@@ -1,8 +1,8 @@
--- Each way through the loop is a lemma of Passes.
+-- Each way through the loop is a lemma of Steps.
 use Prim.Native.Nat.{_-_}
 use native.Mathlib.Omega.{arith}
 use lib.ListN.{length}
-use Rattle.tables.specs.Passes.{Passing, passing-start, passing-stop, passing-on, passing-end}
+use Rattle.tables.specs.Steps.{Passing, passing-start, passing-stop, passing-on, passing-end}
 use borrow.Author.Needs.{needs}
 use Rattle.tables.proofs.flaws.passed.Statement.{statement}
 use Rattle.tables.proofs.flaws.passed.Tie as tie

@@ -1,20 +1,20 @@
--- Passes: the steps of the pass over a table that checks its values and the order of its rows.
+-- Steps: the steps of the pass over a table that checks its values and the order of its rows.
 use Prim.Native.Nat.{ℕ, zero, suc, _+_, _*_, _/_, _%_, _-_, _≤_, _<_}
 use native.Mathlib.Omega.{arith}
 use native.Mathlib.Nat.{add-zero, zero-add, add-assoc, add-mod, mod-mod, mod-eq-of-lt, add-mul, suc-mul, div-lt-iff-lt-mul, le-div-iff-mul-le}
 use native.Mathlib.Numerals.{add-one}
-use mathlib.Core.Path.{_≡_, refl, sym, ap, _∙_}
-use mathlib.Core.Bool.{true, false}
+use mathlib.Core.Path.{_≡_, refl, sym, _∙_}
+use mathlib.Core.Bool.{false}
 use mathlib.Core.List.{List}
 use mathlib.Core.Option.{Option, none, some}
 use lib.ListN.{length, take, drop}
 use borrow.Author.Tests.{lt-ltb, le-ltb}
-use Rattle.meaning.specs.Rows.{Row, Sizes, at, row, before, rowsOf}
+use Rattle.meaning.specs.Rows.{Sizes, at, row, before, rowsOf}
 use Rattle.meaning.specs.Flat.{rows-count, row-bytes}
 use Rattle.meaning.specs.Closed.{orElse, first, unless}
 use Rattle.tables.specs.declared.Flaw.{Flaw}
 use Rattle.tables.specs.declared.Flaw.the-variants.{Value, Order}
-use Rattle.tables.specs.Check.{tryHigh, firstHigh, tryLow, firstLow}
+use Rattle.tables.specs.Check.{tryHigh, tryLow}
 use Rattle.tables.specs.declared.order.Compared.{Compared}
 use Rattle.tables.specs.declared.order.Compared.the-variants.{Below, Same, Above}
 use Rattle.tables.specs.Compare.{comparedOf, compared-says}
