@@ -1,5 +1,6 @@
-pub mod Earlier
+pub mod Made
 pub mod Sending
+pub mod Earlier
 pub mod Parts
 pub mod Edges
 pub mod Middle
@@ -7,4 +8,6 @@ pub mod Making
 pub mod AllRows
 pub mod Measuring
 pub mod Writing
-pub mod Made
+pub mod Refusals
+pub mod Cases
+pub mod Promised

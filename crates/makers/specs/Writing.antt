@@ -3,9 +3,7 @@ use Prim.Native.Nat.{ℕ, _+_, _≤_, _<_}
 use native.Mathlib.Nat.{zero-add}
 use native.Mathlib.Omega.{arith}
 use mathlib.Core.Path.{_≡_, sym, ap, _∙_}
-use mathlib.Core.Bool.{cond}
 use mathlib.Core.List.{List, _++_, append-assoc}
-use lib.Dec.{leb}
 use lib.ListN.{length, drop, length-append}
 use borrow.Author.Tests.{le-leb, lt-leb}
 use Rattle.meaning.specs.Rows.{Row, Sizes}
@@ -20,13 +18,10 @@ use Rattle.makers.specs.declared.Made.{Made}
 use Rattle.makers.specs.declared.Made.the-variants.{Book, Room}
 use Rattle.makers.specs.declared.sending.Tally.{Tally}
 use Rattle.makers.specs.Sending.{State, sends-length, sends-room, sendsFor, Sent}
+use Rattle.makers.specs.Made.{fitting}
 use Rattle.makers.specs.Measuring.{Needed}
 
 -- ---- the book, or refusal 8
-
--- the bytes of the book and its number of rules, where the room is long enough: they are written at its start, and what is beyond them stays
-unfoldable pub fitting : List ℕ → ℕ → List ℕ → Made × List ℕ
-fitting bytes rules room = cond (leb (length bytes) (length room)) (Book (length bytes) rules, bytes ++ drop (length bytes) room) (Room (length bytes), room)
 
 unfoldable pub bookOf : ℕ → Sizes → ℕ → List Row → List ℕ → Made × List ℕ
 bookOf n ns family rows room = fitting (encode n (length ns) family (rulesFor family ns rows)) (length (rulesFor family ns rows)) room
