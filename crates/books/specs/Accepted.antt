@@ -8,9 +8,9 @@ use Rattle.meaning.specs.Rules.{Rule}
 use Rattle.meaning.specs.Bytes.{encodeRules, encodeEnd, encode, WellFormed, endAt, rulesAt, wordAt, rulesIn}
 use Rattle.books.specs.declared.Reading.the-variants.{Book}
 use Rattle.books.specs.Format.{readOf}
-use Rattle.books.specs.Fields.{marked, fielded, worded}
+use Rattle.books.specs.Fields.{mark-tells, field-tells, word-tells}
 use Rattle.books.specs.Back.{cons, cons₃}
-use Rattle.books.specs.Taken.{taken}
+use Rattle.books.specs.Whole.{book-tells}
 use Rattle.books.specs.Holds.{holds-start}
 
 start : (b : List ℕ) → 7 ≤ length b → b ≡ getD b 0 0 ∷ getD b 1 0 ∷ getD b 2 0 ∷ getD b 3 0 ∷ getD b 4 0 ∷ getD b 5 0 ∷ getD b 6 0 ∷ drop 7 b
@@ -36,11 +36,11 @@ pub record Headed (b : List ℕ) (n l family k : ℕ) : Type 0 where
 module _ (b : List ℕ) (n l family k : ℕ) (h : readOf b ≡ Book n l family k) where
   pub headed : Headed b n l family k
   headed =
-      let t = taken b n l family k h in
-      let fn = fielded b 0 2 1 65 n (t .size) in
-      let fl = fielded b 0 3 1 17 l (t .settings) in
-      let ff = fielded b 0 4 0 4 family (t .family-is) in
-      let w = worded b 0 5 24577 k (t .count) in
+      let t = book-tells b n l family k h in
+      let fn = field-tells b 0 2 1 65 n (t .size) in
+      let fl = field-tells b 0 3 1 17 l (t .settings) in
+      let ff = field-tells b 0 4 0 4 family (t .family-is) in
+      let w = word-tells b 0 5 24577 k (t .count) in
       let c : wordAt b 5 ≡ k = sym (w .value) in
       let r : length (rulesIn b) ≡ k = rulesAt-length b 7 (wordAt b 5) ∙ c in
       record {
@@ -67,12 +67,12 @@ module _ (b : List ℕ) (n l family k : ℕ) (h : readOf b ≡ Book n l family k
   pub encoded : ((i : ℕ) → getD b i 0 < 256) → b ≡ encode n l family (rulesIn b)
   unfolding encode
   encoded bytes =
-      let t = taken b n l family k h in
-      let m = marked b 0 66 (t .start) (t .mark) in
+      let t = book-tells b n l family k h in
+      let m = mark-tells b 0 66 (t .start) (t .mark) in
       let d = headed in
       let x : drop 7 b ≡ encodeRules (rulesIn b) ++ encodeEnd = rw (d .count-is) (holds-start b n l family k h .bytes) in
       let p = halves (getD b 5 0) (getD b 6 0) (bytes 6) in
-      start b (omega (arith, worded b 0 5 24577 k (t .count) .inside))
+      start b (omega (arith, word-tells b 0 5 24577 k (t .count) .inside))
       ∙ rw (m .first, m .second, d .n-is, d .l-is, d .family-is, rulesAt-length b 7 (wordAt b 5), p .0, p .1, x)
 
 pub accepted : (b : List ℕ) (n l family k : ℕ) → ((i : ℕ) → getD b i 0 < 256) → readOf b ≡ Book n l family k

@@ -36,14 +36,14 @@ module _ (b : List ℕ) (p m : ℕ) where
   unfolding markOf
   mark-got h e d = rw (le-ltb (length b) (p + 2) h, eq-eqb (getD b p 0) 82 e, eq-eqb (getD b (p + 1) 0) m d)
 
-pub record Marked (b : List ℕ) (p m v : ℕ) : Type 0 where
+pub record MarkGot (b : List ℕ) (p m v : ℕ) : Type 0 where
   pub inside : p + 2 ≤ length b
   pub first : getD b p 0 ≡ 82
   pub second : getD b (p + 1) 0 ≡ m
   pub next : v ≡ p + 2
 
-pub marked : (b : List ℕ) (p m v : ℕ) → markOf b p m ≡ At v → Marked b p m v
-marked b p m v g = elim (decLt (length b) (p + 2)) [
+pub mark-tells : (b : List ℕ) (p m v : ℕ) → markOf b p m ≡ At v → MarkGot b p m v
+mark-tells b p m v g = elim (decLt (length b) (p + 2)) [
   | yes h ↦ no-number (sym (mark-cut b p m h)) g
   | no h ↦ elim (ℕ-discrete (getD b p 0) 82) [
     | no e ↦ no-number (sym (mark-first b p m (omega arith) e)) g
@@ -74,14 +74,14 @@ module _ (b : List ℕ) (from p lo top : ℕ) where
   unfolding fieldOf
   field-got h k t = rw (lt-ltb p (length b) h, le-ltb (getD b p 0) lo k, lt-ltb (getD b p 0) top t)
 
-pub record Fielded (b : List ℕ) (p lo top v : ℕ) : Type 0 where
+pub record FieldGot (b : List ℕ) (p lo top v : ℕ) : Type 0 where
   pub inside : p < length b
   pub value : v ≡ getD b p 0
   pub low : lo ≤ v
   pub high : v < top
 
-pub fielded : (b : List ℕ) (from p lo top v : ℕ) → fieldOf b from p lo top ≡ At v → Fielded b p lo top v
-fielded b from p lo top v g = elim (decLt p (length b)) [
+pub field-tells : (b : List ℕ) (from p lo top v : ℕ) → fieldOf b from p lo top ≡ At v → FieldGot b p lo top v
+field-tells b from p lo top v g = elim (decLt p (length b)) [
   | no h ↦ no-number (sym (field-cut b from p lo top (omega arith))) g
   | yes h ↦ elim (decLt (getD b p 0) lo) [
     | yes k ↦ no-number (sym (field-under b from p lo top h k)) g
@@ -109,13 +109,13 @@ module _ (b : List ℕ) (from p top : ℕ) where
   unfolding wordOf
   word-got k e h t = rw (le-ltb (length b) (p + 2) h, ← e, lt-ltb k top t)
 
-pub record Worded (b : List ℕ) (p top v : ℕ) : Type 0 where
+pub record WordGot (b : List ℕ) (p top v : ℕ) : Type 0 where
   pub inside : p + 2 ≤ length b
   pub value : v ≡ wordAt b p
   pub high : v < top
 
-pub worded : (b : List ℕ) (from p top v : ℕ) → wordOf b from p top ≡ At v → Worded b p top v
-worded b from p top v g = elim (decLt (length b) (p + 2)) [
+pub word-tells : (b : List ℕ) (from p top v : ℕ) → wordOf b from p top ≡ At v → WordGot b p top v
+word-tells b from p top v g = elim (decLt (length b) (p + 2)) [
   | yes h ↦ no-number (sym (word-cut b from p top h)) g
   | no h ↦ elim (decLt (wordAt b p) top) [
     | no t ↦ no-number (sym (word-over b from p top (wordAt b p) refl (omega arith) (omega arith))) g

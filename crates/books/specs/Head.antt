@@ -14,9 +14,9 @@ use Rattle.books.specs.declared.Got.the-variants.{At, No}
 use Rattle.books.specs.declared.Reading.{Reading}
 use Rattle.books.specs.declared.Reading.the-variants.{Book, Faulty}
 use Rattle.books.specs.Format.{markOf, fieldOf, wordOf, rulesOf, tailOf, restOf, readOf}
-use Rattle.books.specs.Fields.{fielded, worded}
-use Rattle.books.specs.Literals.{Sized, Limits}
-use Rattle.books.specs.Ruled.{rules-inside}
+use Rattle.books.specs.Fields.{field-tells, word-tells}
+use Rattle.books.specs.Limits.{Sized, Limits}
+use Rattle.books.specs.Rules.{rules-inside}
 
 -- ---- the sizes of this edition, lent
 pub sizes-good : (n l m : ℕ) → Sized n l → m ≡ n → Limits (take l (replicate 16 m))
@@ -70,10 +70,10 @@ module _ (b : List ℕ) (n l : ℕ) where
     rest-tail r₂ k a₂ q₂ r a = a ∙ sym (rw (sym a₁ ∙ q₁, sym a₂ ∙ q₂))
 
 pub rest-inside : (b : List ℕ) (v : ℕ) (r : Got) → r ≡ fieldOf b 0 4 0 4 → r ≡ At v → 5 ≤ length b
-rest-inside b v r a q = omega (arith, fielded b 0 4 0 4 v (sym a ∙ q) .inside)
+rest-inside b v r a q = omega (arith, field-tells b 0 4 0 4 v (sym a ∙ q) .inside)
 
 pub head-inside : (b : List ℕ) (v : ℕ) (r : Got) → r ≡ wordOf b 0 5 24577 → r ≡ At v → 7 ≤ length b
-head-inside b v r a q = omega (arith, worded b 0 5 24577 v (sym a ∙ q) .inside)
+head-inside b v r a q = omega (arith, word-tells b 0 5 24577 v (sym a ∙ q) .inside)
 
 -- ---- the whole
 module _ (b : List ℕ) where
@@ -97,7 +97,7 @@ module _ (b : List ℕ) where
 
 pub read-sized : (b : List ℕ) (n l : ℕ) (r₂ r₃ : Got) → r₂ ≡ fieldOf b 0 2 1 65 → r₂ ≡ At n → r₃ ≡ fieldOf b 0 3 1 17 → r₃ ≡ At l → Sized n l
 read-sized b n l r₂ r₃ a₂ q₂ a₃ q₃ = record {
-  some = fielded b 0 2 1 65 n (sym a₂ ∙ q₂) .low;
-  few = omega (arith, fielded b 0 3 1 17 l (sym a₃ ∙ q₃) .high);
-  small = omega (arith, fielded b 0 2 1 65 n (sym a₂ ∙ q₂) .high);
+  some = field-tells b 0 2 1 65 n (sym a₂ ∙ q₂) .low;
+  few = omega (arith, field-tells b 0 3 1 17 l (sym a₃ ∙ q₃) .high);
+  small = omega (arith, field-tells b 0 2 1 65 n (sym a₂ ∙ q₂) .high);
 }

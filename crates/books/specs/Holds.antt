@@ -13,9 +13,9 @@ use Rattle.meaning.specs.Bytes.{literal, literalAt, literalsAt, ruleAt, endAt, 
 use Rattle.meaning.specs.Encoded.{rule-stands}
 use Rattle.books.specs.declared.Reading.the-variants.{Book}
 use Rattle.books.specs.Format.{readOf}
-use Rattle.books.specs.Fields.{marked}
-use Rattle.books.specs.Back.{cons₂, rules-got}
-use Rattle.books.specs.Taken.{taken}
+use Rattle.books.specs.Fields.{mark-tells}
+use Rattle.books.specs.Back.{cons₂, rules-tell}
+use Rattle.books.specs.Whole.{book-tells}
 
 -- from place p on stand k good rules, then the end, and nothing more
 pub record Holds (b : List ℕ) (ns : Sizes) (family p k : ℕ) : Type 0 where
@@ -27,9 +27,9 @@ pub record Holds (b : List ℕ) (ns : Sizes) (family p k : ℕ) : Type 0 where
 
 pub holds-start : (b : List ℕ) (n l family k : ℕ) → readOf b ≡ Book n l family k → Holds b (alike n l) family 7 k
 holds-start b n l family k h =
-    let t = taken b n l family k h in
-    let r = rules-got b (alike n l) family 7 k (t .end) (t .rules) in
-    let z = marked b (t .end) 69 (t .last) (t .end-mark) in
+    let t = book-tells b n l family k h in
+    let r = rules-tell b (alike n l) family 7 k (t .end) (t .rules) in
+    let z = mark-tells b (t .end) 69 (t .last) (t .end-mark) in
     let nil : drop (t .end + 2) b ≡ [] = drop-of-length-le b {i = t .end + 2} (omega (arith, t .done, z .next)) in
     record {
       good = r .good;

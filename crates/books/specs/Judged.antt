@@ -17,7 +17,7 @@ use Rattle.books.specs.declared.Reading.the-variants.{Book, Faulty}
 use Rattle.books.specs.declared.Tested.{Tested}
 use Rattle.books.specs.declared.Tested.the-variants.{Permitted, NotMet, Length, Value, Faulty as Refused}
 use Rattle.books.specs.Format.{readOf}
-use Rattle.books.specs.Literals.{Sized}
+use Rattle.books.specs.Limits.{Sized}
 use Rattle.books.specs.Accepted.{headed, rulesAt-length}
 use Rattle.books.specs.Holds.{Holds, holds-start}
 use Rattle.books.specs.First.{firstUnmet, firstOver, firstOver-most, firstOver-below, firstOver-not}

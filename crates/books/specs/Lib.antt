@@ -3,13 +3,14 @@ pub mod Records
 pub mod Format
 pub mod Faults
 pub mod Fields
+pub mod Limits
 pub mod Literals
 pub mod Idle
 pub mod Signs
-pub mod Ruled
+pub mod Rules
 pub mod Head
 pub mod Back
-pub mod Taken
+pub mod Whole
 pub mod Holds
 pub mod Written
 pub mod Accepted

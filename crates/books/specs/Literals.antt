@@ -17,18 +17,7 @@ use Rattle.books.specs.declared.Got.the-variants.{At, No}
 use Rattle.meaning.specs.Rules.{topOf, keyOf, key, Fits, AllFit, Ordered}
 use Rattle.meaning.specs.Bytes.{literal, literalAt, literalsAt}
 use Rattle.books.specs.Format.{fieldOf, orderOf, boundOf, literalOf, literalsOf, _>>=_}
-use Rattle.books.specs.Fields.{no-number, Fielded, fielded}
-
--- what the reader of a head has shown of n and l
-pub record Sized (n l : ℕ) : Type 0 where
-  pub some : 0 < n
-  pub few : l ≤ 16
-  pub small : n ≤ 64
-
--- what the code asks of the sizes that are lent to it: none is 0, and there are at most sixteen
-pub record Limits (ns : List ℕ) : Type 0 where
-  pub some : (i : ℕ) → i < length ns → 0 < getD ns i 0
-  pub few : length ns ≤ 16
+use Rattle.books.specs.Fields.{no-number, FieldGot, field-tells}
 
 -- ---- where a bound stops: its two ways
 pub top-zero : (n g : ℕ) → g ≡ 0 → n - 1 ≡ topOf n g
@@ -64,10 +53,6 @@ module _ (b ns : List ℕ) (from low p i g t : ℕ) (o : t ≡ topOf (getD ns i 
   unfolding boundOf
   bound-order r₁ d a₁ q₁ r a = a ∙ sym (rw (← o, sym a₁ ∙ q₁))
 
--- the size of a known setting
-pub size-some : (ns : List ℕ) (i : ℕ) → Limits ns → i < length ns → 0 < getD ns i 0
-size-some ns i s h = s .some i h
-
 -- the order: its two ways
 pub order-not : (i g low p : ℕ) → 2 * i + g < low → No (Order p) ≡ orderOf i g low p
 unfolding orderOf
@@ -79,19 +64,19 @@ order-got i g low p h = rw (le-ltb (2 * i + g) low h)
 
 -- what was got is in range
 pub sign-small : (b : List ℕ) (from p g : ℕ) (r : Got) → r ≡ fieldOf b from p 0 2 → r ≡ At g → g < 2
-sign-small b from p g r a q = fielded b from p 0 2 g (sym a ∙ q) .high
+sign-small b from p g r a q = field-tells b from p 0 2 g (sym a ∙ q) .high
 
 pub setting-inside : (b ns : List ℕ) (from p i : ℕ) (r : Got) → r ≡ fieldOf b from p 0 (length ns) → r ≡ At i → i < length ns
-setting-inside b ns from p i r a q = fielded b from p 0 (length ns) i (sym a ∙ q) .high
+setting-inside b ns from p i r a q = field-tells b from p 0 (length ns) i (sym a ∙ q) .high
 
 -- ---- what a literal that was got tells
-pub record Literaled (b ns : List ℕ) (low p v : ℕ) : Type 0 where
+pub record LiteralGot (b ns : List ℕ) (low p v : ℕ) : Type 0 where
   pub i : ℕ
   pub g : ℕ
   pub d : ℕ
-  pub setting : Fielded b p 0 (length ns) i
-  pub sign : Fielded b (p + 1) 0 2 g
-  pub bound : Fielded b (p + 2) g (topOf (getD ns i 0) g) d
+  pub setting : FieldGot b p 0 (length ns) i
+  pub sign : FieldGot b (p + 1) 0 2 g
+  pub bound : FieldGot b (p + 2) g (topOf (getD ns i 0) g) d
   pub after : low ≤ keyOf i g
   pub next : v ≡ keyOf i g + 1
 
@@ -100,9 +85,9 @@ pub chain : (r : Got) (k : ℕ → Got) (v : ℕ) → r >>= k ≡ At v → (w : 
 chain (At w) k v e = (w, refl, e)
 chain (No f) k v e = no-number refl e
 
-pub literaled : (b ns : List ℕ) (from low p v : ℕ) → literalOf b ns from low p ≡ At v → Literaled b ns low p v
+pub literal-tells : (b ns : List ℕ) (from low p v : ℕ) → literalOf b ns from low p ≡ At v → LiteralGot b ns low p v
 unfolding literalOf boundOf orderOf
-literaled b ns from low p v e =
+literal-tells b ns from low p v e =
     let s₁ = chain (fieldOf b from p 0 (length ns)) _ v e in
     let i = s₁ .0 in
     let s₂ = chain (fieldOf b from (p + 1) 0 2) _ v (s₁ .2) in
@@ -114,9 +99,9 @@ literaled b ns from low p v e =
       i = i;
       g = g;
       d = d;
-      setting = fielded b from p 0 (length ns) i (s₁ .1);
-      sign = fielded b from (p + 1) 0 2 g (s₂ .1);
-      bound = fielded b from (p + 2) g (topOf (getD ns i 0) g) d (s₃ .1);
+      setting = field-tells b from p 0 (length ns) i (s₁ .1);
+      sign = field-tells b from (p + 1) 0 2 g (s₂ .1);
+      bound = field-tells b from (p + 2) g (topOf (getD ns i 0) g) d (s₃ .1);
       after = k .0;
       next = k .1;
     }
@@ -128,34 +113,34 @@ literaled b ns from low p v e =
     ]
 
 -- ---- the loop over the literals of a rule
-pub record LitsAt (b ns : List ℕ) (from c low p i : ℕ) : Type 0 where
+pub record LiteralsAt (b ns : List ℕ) (from c low p i : ℕ) : Type 0 where
   pub whole : literalsOf b ns from 0 (from + 3) c ≡ literalsOf b ns from low p (c - i)
   pub inside : p ≤ length b
   pub short : i ≤ c
 
 module _ (b ns : List ℕ) (from c : ℕ) where
-  pub lits-start : from + 3 ≤ length b → LitsAt b ns from c 0 (from + 3) 0
-  lits-start h = record { whole = rw (sub-zero c); inside = h; short = omega arith }
+  pub literals-start : from + 3 ≤ length b → LiteralsAt b ns from c 0 (from + 3) 0
+  literals-start h = record { whole = rw (sub-zero c); inside = h; short = omega arith }
 
-  module _ (low p i : ℕ) (a : LitsAt b ns from c low p i) where
-    lits-step : i < c → literalsOf b ns from 0 (from + 3) c ≡ literalOf b ns from low p >>= (λ next. literalsOf b ns from next (p + 3) (c - (i + 1)))
+  module _ (low p i : ℕ) (a : LiteralsAt b ns from c low p i) where
+    literals-step : i < c → literalsOf b ns from 0 (from + 3) c ≡ literalOf b ns from low p >>= (λ next. literalsOf b ns from next (p + 3) (c - (i + 1)))
     unfolding literalsOf
-    lits-step h = let e : c - i ≡ suc (c - (i + 1)) = omega arith in a .whole ∙ rw e
+    literals-step h = let e : c - i ≡ suc (c - (i + 1)) = omega arith in a .whole ∙ rw e
 
-    pub lits-fault : i < c → (r : Got) (f : Fault) → r ≡ literalOf b ns from low p → r ≡ No f → No f ≡ literalsOf b ns from 0 (from + 3) c
-    lits-fault h r f e q = sym (lits-step h ∙ rw (sym e ∙ q))
+    pub literals-fault : i < c → (r : Got) (f : Fault) → r ≡ literalOf b ns from low p → r ≡ No f → No f ≡ literalsOf b ns from 0 (from + 3) c
+    literals-fault h r f e q = sym (literals-step h ∙ rw (sym e ∙ q))
 
-    pub lits-on : i < c → (r : Got) (k : ℕ) → r ≡ literalOf b ns from low p → r ≡ At k → LitsAt b ns from c k (p + 3) (i + 1)
-    lits-on h r k e q =
-        let t = literaled b ns from low p k (sym e ∙ q) in
-        record { whole = lits-step h ∙ rw (sym e ∙ q); inside = omega (arith, t .bound .inside); short = omega arith }
+    pub literals-on : i < c → (r : Got) (k : ℕ) → r ≡ literalOf b ns from low p → r ≡ At k → LiteralsAt b ns from c k (p + 3) (i + 1)
+    literals-on h r k e q =
+        let t = literal-tells b ns from low p k (sym e ∙ q) in
+        record { whole = literals-step h ∙ rw (sym e ∙ q); inside = omega (arith, t .bound .inside); short = omega arith }
 
-    pub lits-end : c ≤ i → At p ≡ literalsOf b ns from 0 (from + 3) c
+    pub literals-end : c ≤ i → At p ≡ literalsOf b ns from 0 (from + 3) c
     unfolding literalsOf
-    lits-end h = let e : c - i ≡ 0 = omega arith in sym (a .whole ∙ rw e)
+    literals-end h = let e : c - i ≡ 0 = omega arith in sym (a .whole ∙ rw e)
 
 -- ---- what literals that were got tell
-pub record Lits (b ns : List ℕ) (low p k e : ℕ) : Type 0 where
+pub record LiteralsGot (b ns : List ℕ) (low p k e : ℕ) : Type 0 where
   pub end : e ≡ p + 3 * k
   pub inside : p ≤ length b → p + 3 * k ≤ length b
   pub ordered : Ordered low (literalsAt b p k)
@@ -167,7 +152,7 @@ literal-fits ns (suc zero) i d h k l t = (record { known = k; low = l; high = t 
 literal-fits ns (suc (suc g)) i d h k l t = absurd (omega arith)
 
 -- the literal that was got, as the bytes have it
-pub got-fits : (b ns : List ℕ) (low p v : ℕ) → Literaled b ns low p v → Fits ns (literalAt b p) × (low ≤ key (literalAt b p)) × (v ≡ key (literalAt b p) + 1)
+pub got-fits : (b ns : List ℕ) (low p v : ℕ) → LiteralGot b ns low p v → Fits ns (literalAt b p) × (low ≤ key (literalAt b p)) × (v ≡ key (literalAt b p) + 1)
 got-fits b ns low p v t =
     let ei : getD b p 0 ≡ t .i = sym (t .setting .value) in
     let eg : getD b (p + 1) 0 ≡ t .g = sym (t .sign .value) in
@@ -175,14 +160,14 @@ got-fits b ns low p v t =
     let u = literal-fits ns (t .g) (t .i) (t .d) (t .sign .high) (t .setting .high) (t .bound .low) (t .bound .high) in
     rw (ei, eg, ed) (u .0, omega (arith, u .1, t .after), omega (arith, u .1, t .next))
 
-pub lits : (b ns : List ℕ) (from low p k e : ℕ) → literalsOf b ns from low p k ≡ At e → Lits b ns low p k e
+pub literals-tell : (b ns : List ℕ) (from low p k e : ℕ) → literalsOf b ns from low p k ≡ At e → LiteralsGot b ns low p k e
 unfolding literalsOf literalsAt
-lits b ns from low p zero e h = let u : e ≡ p = cc in record { end = omega arith; inside = λ t. omega arith; ordered = tt; fit = tt }
-lits b ns from low p (suc k) e h =
+literals-tell b ns from low p zero e h = let u : e ≡ p = cc in record { end = omega arith; inside = λ t. omega arith; ordered = tt; fit = tt }
+literals-tell b ns from low p (suc k) e h =
     let s = chain (literalOf b ns from low p) _ e h in
-    let t = literaled b ns from low p (s .0) (s .1) in
+    let t = literal-tells b ns from low p (s .0) (s .1) in
     let u = got-fits b ns low p (s .0) t in
-    let m = lits b ns from (s .0) (p + 3) k e (s .2) in
+    let m = literals-tell b ns from (s .0) (p + 3) k e (s .2) in
     record {
       end = omega (arith, m .end);
       inside = λ i. omega (arith, m .inside (omega (arith, t .bound .inside)));

@@ -10,7 +10,7 @@ ghost use Prim.Native.Nat.{_≤_};
 ghost use lib.ListN.{length};
 ghost use Rattle.meaning.specs.Rows.{alike};
 ghost use Rattle.meaning.specs.Bytes.{rulesAt};
-ghost use Rattle.books.specs.Literals.{Sized};
+ghost use Rattle.books.specs.Limits.{Sized};
 ghost use Rattle.books.specs.First.{firstUnmet, firstOver};
 ghost use Rattle.books.specs.Asked.{Testable};
 ghost use Rattle.books.specs.Tested.{judgeOf, testedOf};

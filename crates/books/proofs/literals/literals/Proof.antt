@@ -1,13 +1,13 @@
--- `books::literals::literals` meets its contract. The invariant says that the whole answer is that of the literals left (LitsAt).
+-- `books::literals::literals` meets its contract. The invariant says that the whole answer is that of the literals left (LiteralsAt).
 use Prim.Native.Nat.{_-_}
 use native.Mathlib.Omega.{arith}
-use Rattle.books.specs.Literals.{LitsAt, lits-start, lits-fault, lits-on, lits-end}
+use Rattle.books.specs.Literals.{LiteralsAt, literals-start, literals-fault, literals-on, literals-end}
 use borrow.Author.Needs.{needs}
 use Rattle.books.proofs.literals.literals.Statement.{statement}
 use Rattle.books.proofs.literals.literals.Tie as tie
 
 abbrev Inv-loop : tie.InvT-loop
-Inv-loop book sizes from c low₀ p₀ i₀ low p i = LitsAt book sizes from c low p i
+Inv-loop book sizes from c low₀ p₀ i₀ low p i = LiteralsAt book sizes from c low p i
 
 abbrev μ-loop : tie.MeasureT-loop
 μ-loop book sizes from c low₀ p₀ i₀ low p i = c - i
@@ -16,7 +16,7 @@ add-p : tie.Need-add-p Inv-loop μ-loop
 add-p c = search needs
 
 loop-holds : tie.Need-loop-holds Inv-loop μ-loop
-loop-holds c = search (lits-start, arith)
+loop-holds c = search (literals-start, arith)
 
 literal-requires : tie.Need-literal-requires Inv-loop μ-loop
 literal-requires c κs = search needs
@@ -28,7 +28,7 @@ enum-known-f : tie.Need-enum-known-f Inv-loop μ-loop
 enum-known-f c = search needs
 
 returns : tie.Need-returns Inv-loop μ-loop
-returns c = search (lits-fault, arith)
+returns c = search (literals-fault, arith)
 
 add-p-2 : tie.Need-add-p-2 Inv-loop μ-loop
 add-p-2 c = search needs
@@ -40,10 +40,10 @@ loop-less : tie.Need-loop-less Inv-loop μ-loop
 loop-less c = search needs
 
 loop-again : tie.Need-loop-again Inv-loop μ-loop
-loop-again c = search (lits-on, arith)
+loop-again c = search (literals-on, arith)
 
 returns-2 : tie.Need-returns-2 Inv-loop μ-loop
-returns-2 c = search (lits-end, arith)
+returns-2 c = search (literals-end, arith)
 
 pub literals-spec : {M : Type 1} → statement M
 literals-spec =

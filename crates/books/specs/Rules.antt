@@ -13,8 +13,8 @@ use Rattle.books.specs.declared.Got.the-variants.{At, No}
 use Rattle.meaning.specs.Rules.{idle, inFamily, Good}
 use Rattle.meaning.specs.Bytes.{literalsAt, ruleAt, endAt}
 use Rattle.books.specs.Format.{markOf, fieldOf, literalsOf, bodyOf, ruleOf, rulesOf, _>>=_}
-use Rattle.books.specs.Fields.{no-number, marked, fielded, Marked, Fielded}
-use Rattle.books.specs.Literals.{lits, chain}
+use Rattle.books.specs.Fields.{no-number, mark-tells, field-tells, MarkGot, FieldGot}
+use Rattle.books.specs.Literals.{literals-tell, chain}
 use Rattle.books.specs.Idle.{idleNext, idle-next}
 use Rattle.books.specs.Signs.{literals-length}
 
@@ -26,10 +26,10 @@ module _ (b ns : List ℕ) (family from c : ℕ) where
 
   module _ (r : Got) (e : ℕ) (a : r ≡ literalsOf b ns from 0 (from + 3) c) (q : r ≡ At e) where
     pub body-inside : from + 3 ≤ length b → from + 3 + 3 * c ≤ length b
-    body-inside h = lits b ns from 0 (from + 3) c e (sym a ∙ q) .inside h
+    body-inside h = literals-tell b ns from 0 (from + 3) c e (sym a ∙ q) .inside h
 
     is-idle : (d : Bool) → d ≡ idleNext (literalsAt b (from + 3) c) → idle (literalsAt b (from + 3) c) ≡ d
-    is-idle d i = idle-next 0 _ (lits b ns from 0 (from + 3) c e (sym a ∙ q) .ordered) ∙ sym i
+    is-idle d i = idle-next 0 _ (literals-tell b ns from 0 (from + 3) c e (sym a ∙ q) .ordered) ∙ sym i
 
     module _ (d : Bool) (i : d ≡ idleNext (literalsAt b (from + 3) c)) where
       pub body-idle : d ≡ true → No (Idle from) ≡ bodyOf b ns family from c
@@ -62,12 +62,12 @@ module _ (b ns : List ℕ) (family from : ℕ) where
     rule-body r₂ c a₂ q₂ r a = a ∙ sym (rw (sym a₁ ∙ q₁, sym a₂ ∙ q₂))
 
 pub rule-inside : (b : List ℕ) (from top c : ℕ) (r : Got) → r ≡ fieldOf b from (from + 2) 0 top → r ≡ At c → from + 3 ≤ length b
-rule-inside b from top c r a q = omega (arith, fielded b from (from + 2) 0 top c (sym a ∙ q) .inside)
+rule-inside b from top c r a q = omega (arith, field-tells b from (from + 2) 0 top c (sym a ∙ q) .inside)
 
 -- ---- what a rule that was got tells
-pub record Ruled (b ns : List ℕ) (family from e : ℕ) : Type 0 where
-  pub mark : Marked b from 85 (from + 2)
-  pub count : Fielded b (from + 2) 0 (2 * length ns + 1) (getD b (from + 2) 0)
+pub record RuleGot (b ns : List ℕ) (family from e : ℕ) : Type 0 where
+  pub mark : MarkGot b from 85 (from + 2)
+  pub count : FieldGot b (from + 2) 0 (2 * length ns + 1) (getD b (from + 2) 0)
   pub end : e ≡ endAt b from
   pub inside : e ≤ length b
   pub good : Good ns family (ruleAt b from)
@@ -77,16 +77,16 @@ chosen true k f g e v h = no-number refl h
 chosen false true f g e v h = (refl, refl, cc)
 chosen false false f g e v h = no-number refl h
 
-pub ruled : (b ns : List ℕ) (family from e : ℕ) → ruleOf b ns family from ≡ At e → Ruled b ns family from e
+pub rule-tells : (b ns : List ℕ) (family from e : ℕ) → ruleOf b ns family from ≡ At e → RuleGot b ns family from e
 unfolding ruleOf bodyOf
-ruled b ns family from e h =
+rule-tells b ns family from e h =
     let s₁ = chain (markOf b from 85) _ e h in
-    let m = marked b from 85 (s₁ .0) (s₁ .1) in
+    let m = mark-tells b from 85 (s₁ .0) (s₁ .1) in
     let s₂ = chain (fieldOf b from (from + 2) 0 (2 * length ns + 1)) _ e (s₁ .2) in
     let c = s₂ .0 in
-    let k = fielded b from (from + 2) 0 (2 * length ns + 1) c (s₂ .1) in
+    let k = field-tells b from (from + 2) 0 (2 * length ns + 1) c (s₂ .1) in
     let s₃ = chain (literalsOf b ns from 0 (from + 3) c) _ e (s₂ .2) in
-    let x = lits b ns from 0 (from + 3) c (s₃ .0) (s₃ .1) in
+    let x = literals-tell b ns from 0 (from + 3) c (s₃ .0) (s₃ .1) in
     let w = chosen (idle (literalsAt b (from + 3) c)) (inFamily family (literalsAt b (from + 3) c)) (Idle from) (Family from) (s₃ .0) e (s₃ .2) in
     let u : getD b (from + 2) 0 ≡ c = sym (k .value) in
     record {
@@ -116,7 +116,7 @@ module _ (b ns : List ℕ) (family at count : ℕ) where
     rules-fault h r f e q = sym (rules-step h ∙ rw (sym e ∙ q))
 
     pub rules-on : i < count → (r : Got) (v : ℕ) → r ≡ ruleOf b ns family p → r ≡ At v → RulesAt b ns family at count v (i + 1)
-    rules-on h r v e q = record { whole = rules-step h ∙ rw (sym e ∙ q); inside = ruled b ns family p v (sym e ∙ q) .inside; short = omega arith }
+    rules-on h r v e q = record { whole = rules-step h ∙ rw (sym e ∙ q); inside = rule-tells b ns family p v (sym e ∙ q) .inside; short = omega arith }
 
     pub rules-end : count ≤ i → At p ≡ rulesOf b ns family at count
     unfolding rulesOf
@@ -127,4 +127,4 @@ unfolding rulesOf
 rules-inside b ns family at zero e h g = let u : at ≡ e = cc in omega arith
 rules-inside b ns family at (suc k) e h g =
     let s = chain (ruleOf b ns family at) _ e g in
-    rules-inside b ns family (s .0) k e (ruled b ns family at (s .0) (s .1) .inside) (s .2)
+    rules-inside b ns family (s .0) k e (rule-tells b ns family at (s .0) (s .1) .inside) (s .2)

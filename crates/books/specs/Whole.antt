@@ -16,7 +16,7 @@ use Rattle.books.specs.declared.Reading.{Reading}
 use Rattle.books.specs.declared.Reading.the-variants.{Book, Faulty}
 use Rattle.books.specs.Format.{markOf, fieldOf, wordOf, rulesOf, tailOf, restOf, readOf, _then_}
 
-pub record Taken (b : List ℕ) (n l family k : ℕ) : Type 0 where
+pub record BookGot (b : List ℕ) (n l family k : ℕ) : Type 0 where
   pub start : ℕ
   pub end : ℕ
   pub last : ℕ
@@ -45,7 +45,7 @@ module _ (b : List ℕ) (n l family k : ℕ) where
 
   -- with the numbers as variables
   go : (m n′ l′ f′ k′ e v : ℕ) → markOf b 0 66 ≡ At m → fieldOf b 0 2 1 65 ≡ At n′ → fieldOf b 0 3 1 17 ≡ At l′ → fieldOf b 0 4 0 4 ≡ At f′ → wordOf b 0 5 24577 ≡ At k′
-      → rulesOf b (alike n′ l′) f′ 7 k′ ≡ At e → markOf b e 69 ≡ At v → (length b ≤ v) × (n′ ≡ n) × (l′ ≡ l) × (f′ ≡ family) × (k′ ≡ k) → Taken b n l family k
+      → rulesOf b (alike n′ l′) f′ 7 k′ ≡ At e → markOf b e 69 ≡ At v → (length b ≤ v) × (n′ ≡ n) × (l′ ≡ l) × (f′ ≡ family) × (k′ ≡ k) → BookGot b n l family k
   go m n′ l′ f′ k′ e v s₁ s₂ s₃ s₄ s₅ s₆ s₇ d = record {
     start = m;
     end = e;
@@ -60,9 +60,9 @@ module _ (b : List ℕ) (n l family k : ℕ) where
     done = d .0;
   }
 
-  pub taken : readOf b ≡ Book n l family k → Taken b n l family k
+  pub book-tells : readOf b ≡ Book n l family k → BookGot b n l family k
   unfolding readOf restOf tailOf
-  taken h =
+  book-tells h =
       let s₁ = steps (markOf b 0 66) _ n l family k h in
       let s₂ = steps (fieldOf b 0 2 1 65) _ n l family k (s₁ .2) in
       let s₃ = steps (fieldOf b 0 3 1 17) _ n l family k (s₂ .2) in
