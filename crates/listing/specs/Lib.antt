@@ -10,3 +10,9 @@ pub mod Interval
 pub mod Judging
 pub mod Forbidding
 pub mod Windows
+pub mod Course
+pub mod Steps
+pub mod Turns
+pub mod Resuming
+pub mod Starting
+pub mod Copying

@@ -1,0 +1,149 @@
+-- Resuming: the way along the given cursor's own values, with one scan for each live prefix on it.
+use Prim.Native.Nat.{ℕ, _+_, _-_, _≤_, _<_}
+use native.Mathlib.Numerals.{add-one}
+use native.Mathlib.Omega.{arith}
+use mathlib.Core.Path.{_≡_, refl, sym, ap, _∙_}
+use mathlib.Core.Bool.{Bool, true, false}
+use mathlib.Core.List.{List, [], _∷_, _++_}
+use lib.ListN.{length, getD, drop, drop-of-length-le}
+use lib.Seq.{drop-cons, getD-take}
+use Rattle.meaning.specs.Rows.{Row, Sizes}
+use Rattle.meaning.specs.Listing.{below}
+use Rattle.listing.specs.declared.cursor.Cursor.{Cursor}
+use Rattle.listing.specs.declared.scan.Scanned.{Scanned}
+use Rattle.listing.specs.declared.walk.Walk.{Walk}
+use Rattle.listing.specs.Cursors.{prefixOf}
+use Rattle.listing.specs.Prefixes.{Plain, plain-length, pushOf, push-prefix, push-plain}
+use Rattle.listing.specs.Forbidding.{forbidden}
+use Rattle.listing.specs.Windows.{Window, Scans}
+use Rattle.listing.specs.Course.{part, part-cons, fromOf, pastOf, below-from}
+use Rattle.listing.specs.Steps.{S, inwardOf, runs, runs-nil, runs-append, Ready}
+
+-- ---- a scan that is made only where a level is gone into
+
+pub record WindowIf (b : List ℕ) (d : Row → Bool) (x : Row) (at rules levels : ℕ) : Type 0 where
+  pub window : (levels ≡ 0 → ⊥) → Window b d x at rules
+  pub live : (levels ≡ 0 → ⊥) → d x ≡ false
+
+pub record ScansIf (b : List ℕ) (d : Row → Bool) (x : Row) (levels : ℕ) (s : Scanned) : Type 0 where
+  pub scans : (levels ≡ 0 → ⊥) → Scans b d x s
+
+pub scans-none : (b : List ℕ) (d : Row → Bool) (x : Row) (levels : ℕ) (s : Scanned) → levels ≡ 0 → ScansIf b d x levels s
+scans-none b d x levels s h = record { scans = λ z. absurd (z h) }
+
+pub scans-some : (b : List ℕ) (d : Row → Bool) (x : Row) (levels : ℕ) (s : Scanned) → Scans b d x s → ScansIf b d x levels s
+scans-some b d x levels s a = record { scans = λ z. a }
+
+-- ---- what a scan below cur tells of the prefix one longer
+
+module _ (b : List ℕ) (d : Row → Bool) (ns : Sizes) (room : List ℕ) (cur : Cursor) (levels fit : ℕ) (s : Scanned)
+    (y : Ready ns room cur levels fit) (a : ScansIf b d (prefixOf cur) levels s) (z : levels ≡ 0 → ⊥)
+    (v : ℕ) (h : v < getD ns (cur .len) 0) (next : Cursor) (n : next ≡ pushOf cur v) where
+  longer : prefixOf next ≡ prefixOf cur ++ (v ∷ [])
+  longer = ap (λ (u : Cursor). prefixOf u) n ∙ push-prefix cur v (y .plain) (omega (arith, y .deep, y .limited .short))
+
+  pub next-small : v < 64
+  next-small = omega (arith, y .limited .few (cur .len) (omega (arith, y .deep)))
+
+  pub next-dead : (i : ℕ) → i ≡ v → forbidden (s .allowed) i ≡ d (prefixOf next)
+  next-dead i e = ap (forbidden (s .allowed)) e ∙ a .scans z .values v next-small ∙ ap d (sym longer)
+
+  pub next-window : d (prefixOf next) ≡ false → Window b d (prefixOf next) (s .at) (s .rules)
+  next-window l = rw longer (a .scans z .window v (sym (ap d longer) ∙ l))
+
+  -- it is gone into only if it is live
+  pub next-window-if : (i : ℕ) → i ≡ v → (k : ℕ) → k ≡ inwardOf (forbidden (s .allowed) i) levels → WindowIf b d (prefixOf next) (s .at) (s .rules) k
+  next-window-if i e k f = record { window = λ q. next-window (live q); live = live }
+    where
+      live : (k ≡ 0 → ⊥) → d (prefixOf next) ≡ false
+      live q = go (d (prefixOf next)) (sym (next-dead i e))
+        where
+          go : (t : Bool) → t ≡ forbidden (s .allowed) i → t ≡ false
+          go true u = absurd (q (f ∙ ap (λ (r : Bool). inwardOf r levels) (sym u)))
+          go false u = refl
+
+-- ---- the way along the cursor c, of which cur is the beginning
+
+pub record Along (ns : Sizes) (c cur : Cursor) (levels : ℕ) : Type 0 where
+  pub plain : Plain c
+  pub here : cur .len ≤ c .len
+  pub deep : c .len ≤ cur .len + levels
+  pub fits : (k : ℕ) → k < c .len → getD (c .values) k 0 < getD ns k 0
+
+pub past-none : (d : Row → Bool) (ns : Sizes) (p c : Row) → d p ≡ true → pastOf d ns p c ≡ []
+past-none d [] p [] h = refl
+past-none d (n ∷ ns) p [] h = rw h
+past-none d [] p (v ∷ c) h = refl
+past-none d (n ∷ ns) p (v ∷ c) h = rw h
+
+module _ (d : Row → Bool) (ns : Sizes) (c cur : Cursor) (levels fit budget : ℕ) (st : Walk) (o : List ℕ) where
+  -- the whole, as the contract has it
+  abbrev pub resumeOf : S
+  resumeOf = runs d (length ns) fit budget (pastOf d (part ns (cur .len) levels) (prefixOf cur) (drop (cur .len) (prefixOf c))) (st, o)
+
+  -- nothing is below a dead prefix
+  below-dead : (q : Cursor) (k : ℕ) → d (prefixOf q) ≡ true
+      → _≡_ {A = S} (st, o) (runs d (length ns) fit budget (pastOf d (part ns (q .len) k) (prefixOf q) (drop (q .len) (prefixOf c))) (st, o))
+  below-dead q k h =
+      sym (runs-nil d (length ns) fit budget (st, o))
+      ∙ ap (λ (L : List Row). runs d (length ns) fit budget L (st, o)) (sym (past-none d (part ns (q .len) k) (prefixOf q) (drop (q .len) (prefixOf c)) h))
+
+  module _ (y : Ready ns o cur levels fit) (a : Along ns c cur levels) (live : d (prefixOf cur) ≡ false) where
+    -- cur is c: all that is below it
+    pub resume-here : cur .len ≡ c .len → (r : Walk) (o₁ : List ℕ)
+        → _≡_ {A = S} (r, o₁) (runs d (length ns) fit budget (fromOf d (part ns (cur .len) levels) (prefixOf cur) 0) (st, o)) → _≡_ {A = S} (r, o₁) resumeOf
+    resume-here k r o₁ q =
+        let none : drop (cur .len) (prefixOf c) ≡ [] = drop-of-length-le (prefixOf c) {i = cur .len} (omega (arith, plain-length c (a .plain))) in
+        let into : below d (part ns (cur .len) levels) (prefixOf cur) ≡ fromOf d (part ns (cur .len) levels) (prefixOf cur) 0 =
+        rw live at (below-from d (part ns (cur .len) levels) (prefixOf cur)) in
+        q ∙ ap (λ (L : List Row). runs d (length ns) fit budget L (st, o)) (sym into)
+        ∙ ap (λ (x : Row). runs d (length ns) fit budget (pastOf d (part ns (cur .len) levels) (prefixOf cur) x) (st, o)) (sym none)
+
+    module _ (k : cur .len ≡ c .len → ⊥) where
+      -- c goes on with a value of the next setting
+      pub resume-small : (cur .len < 16) × (getD (c .values) (cur .len) 0 < getD ns (cur .len) 0) × (getD (c .values) (cur .len) 0 < 64) × (0 < levels)
+      resume-small =
+          let f = a .fits (cur .len) (omega (arith, a .here)) in
+          (omega (arith, y .deep, y .limited .short, a .here, a .deep), f, omega (arith, y .limited .few (cur .len) (omega (arith, y .deep, a .here, a .deep))), omega (arith, a .here, a .deep))
+
+      module _ (next : Cursor) (n : next ≡ pushOf cur (getD (c .values) (cur .len) 0)) where
+        abbrev v : ℕ
+        v = getD (c .values) (cur .len) 0
+
+        next-len : next .len ≡ cur .len + 1
+        next-len = ap (λ (u : Cursor). u .len) n
+
+        pub resume-next : Ready ns o next (levels - 1) fit × Along ns c next (levels - 1)
+        resume-next = (
+          record { cells = y .cells; plain = rw n (push-plain cur v (y .plain) (resume-small .0)); deep = omega (arith, y .deep, resume-small .3, next-len); limited = y .limited },
+          record { plain = a .plain; here = omega (arith, a .here, next-len); deep = omega (arith, a .deep, resume-small .3, next-len); fits = a .fits },
+        )
+
+        -- what is below c's own next value, then from the value after it on
+        pub resume-on : (w : Walk) (o₁ : List ℕ)
+            → _≡_ {A = S} (w, o₁) (runs d (length ns) fit budget (pastOf d (part ns (next .len) (levels - 1)) (prefixOf next) (drop (next .len) (prefixOf c))) (st, o))
+            → (r : Walk) (o₂ : List ℕ) → _≡_ {A = S} (r, o₂) (runs d (length ns) fit budget (fromOf d (part ns (cur .len) levels) (prefixOf cur) (v + 1)) (w, o₁))
+            → _≡_ {A = S} (r, o₂) resumeOf
+        resume-on w o₁ m r o₂ q =
+            let deeper : Sizes = part ns (cur .len + 1) (levels - 1) in
+            let x : prefixOf next ≡ prefixOf cur ++ (v ∷ []) = ap (λ (u : Cursor). prefixOf u) n ∙ push-prefix cur v (y .plain) (resume-small .0) in
+            let lc = plain-length c (a .plain) in
+            let in-c : cur .len < c .len = omega (arith, a .here) in
+            let cons : drop (cur .len) (prefixOf c) ≡ v ∷ drop (cur .len + 1) (prefixOf c) =
+            drop-cons (prefixOf c) (cur .len) 0 (omega arith) ∙ rw (getD-take (c .len) (c .values) (cur .len) 0 in-c, add-one (cur .len)) in
+            let sizes : part ns (cur .len) levels ≡ getD ns (cur .len) 0 ∷ deeper = part-cons ns (cur .len) levels (omega (arith, resume-small .3)) in
+            let m′ : _≡_ {A = S} (w, o₁) (runs d (length ns) fit budget (pastOf d deeper (prefixOf cur ++ (v ∷ [])) (drop (cur .len + 1) (prefixOf c))) (st, o)) =
+            m ∙ ap (λ (i : ℕ). runs d (length ns) fit budget (pastOf d (part ns i (levels - 1)) (prefixOf next) (drop i (prefixOf c))) (st, o)) next-len
+            ∙ ap (λ (u : Row). runs d (length ns) fit budget (pastOf d deeper u (drop (cur .len + 1) (prefixOf c))) (st, o)) x in
+            let split : pastOf d (part ns (cur .len) levels) (prefixOf cur) (drop (cur .len) (prefixOf c))
+            ≡ pastOf d deeper (prefixOf cur ++ (v ∷ [])) (drop (cur .len + 1) (prefixOf c)) ++ fromOf d (part ns (cur .len) levels) (prefixOf cur) (v + 1) =
+            rw (cons, sizes, live, add-one v) in
+            q ∙ ap (λ (t : S). runs d (length ns) fit budget (fromOf d (part ns (cur .len) levels) (prefixOf cur) (v + 1)) t) m′
+            ∙ sym (runs-append d (length ns) fit budget (pastOf d deeper (prefixOf cur ++ (v ∷ [])) (drop (cur .len + 1) (prefixOf c))) (fromOf d (part ns (cur .len) levels) (prefixOf cur) (v + 1)) (st, o))
+            ∙ ap (λ (L : List Row). runs d (length ns) fit budget L (st, o)) (sym split)
+
+        -- that value is dead: nothing is below it
+        pub resume-skip : d (prefixOf next) ≡ true
+            → (r : Walk) (o₂ : List ℕ) → _≡_ {A = S} (r, o₂) (runs d (length ns) fit budget (fromOf d (part ns (cur .len) levels) (prefixOf cur) (v + 1)) (st, o))
+            → _≡_ {A = S} (r, o₂) resumeOf
+        resume-skip h r o₂ q = resume-on st o (below-dead next (levels - 1) h) r o₂ q
