@@ -5,19 +5,19 @@ use mathlib.Core.Path.{_≡_, refl, sym, ap, _∙_}
 use mathlib.Core.List.{List, _∷_, _++_}
 use lib.ListN.{length, getD, drop}
 use Rattle.meaning.specs.Rules.{Rule}
+use Rattle.meaning.specs.Literals.{one-byte, three-bytes}
 use Rattle.meaning.specs.Bytes.{encodeRules, encodeEnd, encode, WellFormed, endAt, rulesAt, wordAt, rulesIn}
 use Rattle.books.specs.declared.Reading.the-variants.{Book}
 use Rattle.books.specs.Format.{readOf}
 use Rattle.books.specs.Fields.{mark-tells, field-tells, word-tells}
-use Rattle.books.specs.Back.{cons, cons₃}
 use Rattle.books.specs.Whole.{book-tells}
 use Rattle.books.specs.Holds.{holds-start}
 
 start : (b : List ℕ) → 7 ≤ length b → b ≡ getD b 0 0 ∷ getD b 1 0 ∷ getD b 2 0 ∷ getD b 3 0 ∷ getD b 4 0 ∷ getD b 5 0 ∷ getD b 6 0 ∷ drop 7 b
 start b h =
-    cons₃ b 0 (omega arith)
-    ∙ ap (λ (t : List ℕ). getD b 0 0 ∷ getD b 1 0 ∷ getD b 2 0 ∷ t) (cons₃ b 3 (omega arith))
-    ∙ ap (λ (t : List ℕ). getD b 0 0 ∷ getD b 1 0 ∷ getD b 2 0 ∷ getD b 3 0 ∷ getD b 4 0 ∷ getD b 5 0 ∷ t) (cons b 6 (omega arith))
+    three-bytes b 0 (omega arith)
+    ∙ ap (λ (t : List ℕ). getD b 0 0 ∷ getD b 1 0 ∷ getD b 2 0 ∷ t) (three-bytes b 3 (omega arith))
+    ∙ ap (λ (t : List ℕ). getD b 0 0 ∷ getD b 1 0 ∷ getD b 2 0 ∷ getD b 3 0 ∷ getD b 4 0 ∷ getD b 5 0 ∷ t) (one-byte b 6 (omega arith))
 
 pub rulesAt-length : (b : List ℕ) (p k : ℕ) → length (rulesAt b p k) ≡ k
 unfolding rulesAt

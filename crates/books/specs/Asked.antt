@@ -1,32 +1,16 @@
--- Testing one rule where it stands in a book: a literal, the loop over its literals, and the loop to the first rule not met.
-use Prim.Native.Nat.{ℕ, zero, suc, _+_, _*_, _-_, _≤_, _<_}
+-- Testing rules where they stand in a book: the loop over a rule's literals, and the loop to the first rule not met.
+use Prim.Native.Nat.{ℕ, suc, _+_, _*_, _-_, _≤_, _<_}
 use native.Mathlib.Omega.{arith}
 use native.Mathlib.Nat.{sub-zero}
-use mathlib.Core.Path.{_≡_, refl, sym, _∙_}
-use mathlib.Core.Logic.{_≢_}
+use mathlib.Core.Path.{_≡_, sym, _∙_}
 use mathlib.Core.Bool.{Bool, true, false, _||_}
 use mathlib.Core.List.{List, _∷_}
-use lib.Dec.{leb}
 use lib.ListN.{length, getD}
 use Rattle.meaning.specs.Rows.{Row, Sizes, at}
 use Rattle.meaning.specs.Rules.{holds, met, AllFit}
-use Rattle.meaning.specs.Bytes.{literal, literalAt, literalsAt, ruleAt, endAt, rulesAt}
+use Rattle.meaning.specs.Bytes.{literalAt, literalsAt, ruleAt, endAt, rulesAt}
 use Rattle.books.specs.Holds.{Holds, holds-good, holds-inside, holds-on, setting-at}
 use Rattle.books.specs.First.{firstUnmet, firstUnmet-met, firstUnmet-not}
-
--- ---- a literal: the two ways
-module _ (b : List ℕ) (p : ℕ) (x : Row) (i : ℕ) (e : i ≡ getD b p 0) where
-  pub holds-most : getD b (p + 1) 0 ≡ 0 → leb (getD x i 0) (getD b (p + 2) 0) ≡ holds (literalAt b p) x
-  unfolding holds
-  holds-most h = rw (h, e)
-
-  pub holds-least : getD b (p + 1) 0 ≢ 0 → leb (getD b (p + 2) 0) (getD x i 0) ≡ holds (literalAt b p) x
-  unfolding holds
-  holds-least h = rw e (go (getD b (p + 1) 0) h)
-    where
-      go : (g : ℕ) → g ≢ 0 → leb (getD b (p + 2) 0) (getD x (getD b p 0) 0) ≡ holds (literal g (getD b p 0) (getD b (p + 2) 0)) x
-      go zero h = absurd (h refl)
-      go (suc g) h = refl
 
 -- ---- c literals from `start` on that may be asked of x: they are inside the book, on settings that x has
 pub record Askable (b : List ℕ) (start c : ℕ) (x : Row) : Type 0 where

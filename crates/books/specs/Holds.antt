@@ -9,12 +9,13 @@ use lib.ListN.{length, getD, take, drop, drop-of-length-le}
 use lib.Seq.{take-at}
 use Rattle.meaning.specs.Rows.{Sizes, alike}
 use Rattle.meaning.specs.Rules.{setting, bound, Fits, AllFit, Good, AllGood}
+use Rattle.meaning.specs.Literals.{two-bytes}
 use Rattle.meaning.specs.Bytes.{literal, literalAt, literalsAt, ruleAt, endAt, rulesAt, placeAt, encodeRule, encodeRules, encodeEnd}
 use Rattle.meaning.specs.Encoded.{rule-stands}
 use Rattle.books.specs.declared.Reading.the-variants.{Book}
 use Rattle.books.specs.Format.{readOf}
 use Rattle.books.specs.Fields.{mark-tells}
-use Rattle.books.specs.Back.{cons₂, rules-tell}
+use Rattle.books.specs.Back.{rules-tell}
 use Rattle.books.specs.Whole.{book-tells}
 
 -- from place p on stand k good rules, then the end, and nothing more
@@ -34,7 +35,7 @@ holds-start b n l family k h =
     record {
       good = r .good;
       inside = omega (arith, r .end, z .inside);
-      bytes = r .bytes ∙ ap (λ (x : List ℕ). encodeRules (rulesAt b 7 k) ++ x) (cons₂ b (t .end) (omega (arith, z .inside)) ∙ rw (z .first, z .second, nil));
+      bytes = r .bytes ∙ ap (λ (x : List ℕ). encodeRules (rulesAt b 7 k) ++ x) (two-bytes b (t .end) (z .inside) ∙ rw (z .first, z .second, nil));
     }
 
 -- ---- the step

@@ -2,19 +2,15 @@
 use Prim.Native.Nat.{ℕ, zero, suc, _+_, _*_, _-_, _≤_, _<_}
 use native.Mathlib.Omega.{arith}
 use native.Mathlib.Nat.{sub-zero}
-use mathlib.Core.Path.{_≡_, refl, ap, _∙_}
+use mathlib.Core.Path.{_≡_, refl, _∙_}
 use mathlib.Core.Logic.{_≢_}
 use mathlib.Core.Bool.{true, cond}
 use mathlib.Core.List.{List, [], _∷_}
 use lib.Dec.{ltb}
 use lib.ListN.{length, getD}
 use Rattle.meaning.specs.Rules.{Rule, atMost, atLeast, low, high, scarce, scarces, horn, bijunctive, inFamily}
+use Rattle.meaning.specs.Literals.{literals-length}
 use Rattle.meaning.specs.Bytes.{literal, literalAt, literalsAt}
-
-pub literals-length : (b : List ℕ) (p c : ℕ) → length (literalsAt b p c) ≡ c
-unfolding literalsAt
-literals-length b p zero = refl
-literals-length b p (suc c) = ap suc (literals-length b (p + 3) c)
 
 -- ---- one literal: 1 if it is negative, else 0
 pub record NegativeAt (b : List ℕ) (p r : ℕ) : Type 0 where

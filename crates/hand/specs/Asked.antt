@@ -1,33 +1,14 @@
--- What is asked of a row: a lemma for each way out of the tests of a literal and of a rule.
-use Prim.Native.Nat.{ℕ, zero, suc, _+_, _-_, _≤_, _<_}
+-- What is asked of a row: a lemma for each way out of the test of a rule.
+use Prim.Native.Nat.{ℕ, _+_, _-_, _≤_, _<_}
 use native.Mathlib.Nat.{sub-zero}
-use mathlib.Core.Path.{_≡_, refl, sym, _∙_}
+use mathlib.Core.Path.{_≡_, sym, _∙_}
 use mathlib.Core.Bool.{Bool, true, false}
 use mathlib.Core.List.{List}
-use lib.Dec.{leb}
-use lib.ListN.{length, getD}
+use lib.ListN.{length}
 use Rattle.meaning.specs.Rows.{Row}
 use Rattle.meaning.specs.Rules.{holds, met}
-use Rattle.meaning.specs.Bytes.{literal, literalAt, literalsAt}
+use Rattle.meaning.specs.Bytes.{literalAt, literalsAt}
 use Rattle.hand.specs.Known.{Known, At, literals-on, literals-none, at-start, at-on, Left, left-start, left-on}
-
--- ---- a literal
-
-pub holds-most : (b : List ℕ) (p i : ℕ) (x : Row) → i ≡ getD b p 0 → getD b (p + 1) 0 ≡ 0
-    → leb (getD x i 0) (getD b (p + 2) 0) ≡ holds (literalAt b p) x
-unfolding holds
-holds-most b p i x e g = rw (g, e)
-
-pub holds-least : (b : List ℕ) (p i : ℕ) (x : Row) → i ≡ getD b p 0 → (getD b (p + 1) 0 ≡ 0 → ⊥)
-    → leb (getD b (p + 2) 0) (getD x i 0) ≡ holds (literalAt b p) x
-unfolding holds
-holds-least b p i x e g = rw e (go (getD b (p + 1) 0) g)
-  where
-    go : (s : ℕ) → (s ≡ 0 → ⊥) → leb (getD b (p + 2) 0) (getD x (getD b p 0) 0) ≡ holds (literal s (getD b p 0) (getD b (p + 2) 0)) x
-    go zero n = absurd (n refl)
-    go (suc s) n = refl
-
--- ---- a rule
 
 -- the rule is met if what is left of it is
 pub record MetAt (b : List ℕ) (count : ℕ) (x : Row) (p j : ℕ) : Type 0 where

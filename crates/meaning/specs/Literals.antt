@@ -1,13 +1,30 @@
--- Literals in bytes: how the rule that stands in bytes depends on them, and that a rule's bytes are those that the book has for it.
+-- Literals in bytes: when one that stands there holds, how a rule that stands there depends on the bytes, and that a rule's bytes are those that the book has for it.
 use Prim.Native.Nat.{ℕ, zero, suc, _+_, _*_, _≤_, _<_}
 use native.Mathlib.Omega.{arith}
 use native.Mathlib.Numerals.{add-one, unary-clauses}
 use mathlib.Core.Path.{_≡_, refl, sym, ap, _∙_}
+use mathlib.Core.Logic.{_≢_}
 use mathlib.Core.List.{List, [], _∷_, _++_}
+use lib.Dec.{leb}
 use lib.ListN.{length, getD, take, drop}
 use lib.Seq.{drop-cons}
-use Rattle.meaning.specs.Rules.{Rule, setting, sign, bound}
+use Rattle.meaning.specs.Rows.{Row}
+use Rattle.meaning.specs.Rules.{Rule, setting, sign, bound, holds}
 use Rattle.meaning.specs.Bytes.{encodeLiterals, literal, literalAt, literalsAt}
+
+-- the literal at p holds, by its sign; i is its setting
+module _ (b : List ℕ) (p i : ℕ) (x : Row) (e : i ≡ getD b p 0) where
+  pub holds-most : getD b (p + 1) 0 ≡ 0 → leb (getD x i 0) (getD b (p + 2) 0) ≡ holds (literalAt b p) x
+  unfolding holds
+  holds-most h = rw (h, e)
+
+  pub holds-least : getD b (p + 1) 0 ≢ 0 → leb (getD b (p + 2) 0) (getD x i 0) ≡ holds (literalAt b p) x
+  unfolding holds
+  holds-least h = rw e (go (getD b (p + 1) 0) h)
+    where
+      go : (g : ℕ) → g ≢ 0 → leb (getD b (p + 2) 0) (getD x (getD b p 0) 0) ≡ holds (literal g (getD b p 0) (getD b (p + 2) 0)) x
+      go zero h = absurd (h refl)
+      go (suc g) h = refl
 
 pub literals-length : (b : List ℕ) (p k : ℕ) → length (literalsAt b p k) ≡ k
 unfolding literalsAt
@@ -31,21 +48,23 @@ literals-more b p (suc k) =
     rw (e, z) (ap (λ (l : Rule). literalAt b p ∷ l) (literals-more b (p + 3) k))
 
 -- a literal's parts are its three bytes
-literal-parts : (g i d : ℕ) (t : List ℕ) → g < 2 → setting (literal g i d) ∷ sign (literal g i d) ∷ bound (literal g i d) ∷ t ≡ i ∷ g ∷ d ∷ t
+pub literal-parts : (g i d : ℕ) (t : List ℕ) → g < 2 → setting (literal g i d) ∷ sign (literal g i d) ∷ bound (literal g i d) ∷ t ≡ i ∷ g ∷ d ∷ t
 literal-parts zero i d t h = refl
 literal-parts (suc zero) i d t h = refl
 literal-parts (suc (suc g)) i d t h = absurd (omega arith)
 
-one-byte : (b : List ℕ) (p : ℕ) → p < length b → drop p b ≡ getD b p 0 ∷ drop (p + 1) b
+pub one-byte : (b : List ℕ) (p : ℕ) → p < length b → drop p b ≡ getD b p 0 ∷ drop (p + 1) b
 one-byte b p h = drop-cons b p 0 h ∙ rw (add-one p)
 
-three-bytes : (b : List ℕ) (p : ℕ) → p + 3 ≤ length b → drop p b ≡ getD b p 0 ∷ getD b (p + 1) 0 ∷ getD b (p + 2) 0 ∷ drop (p + 3) b
+pub two-bytes : (b : List ℕ) (p : ℕ) → p + 2 ≤ length b → drop p b ≡ getD b p 0 ∷ getD b (p + 1) 0 ∷ drop (p + 2) b
+two-bytes b p h =
+    let e : p + 1 + 1 ≡ p + 2 = omega arith in
+    one-byte b p (omega arith) ∙ ap (λ (l : List ℕ). getD b p 0 ∷ l) (one-byte b (p + 1) (omega arith) ∙ rw e)
+
+pub three-bytes : (b : List ℕ) (p : ℕ) → p + 3 ≤ length b → drop p b ≡ getD b p 0 ∷ getD b (p + 1) 0 ∷ getD b (p + 2) 0 ∷ drop (p + 3) b
 three-bytes b p h =
-    let e₂ : p + 1 + 1 ≡ p + 2 = omega arith in
-    let e₃ : p + 2 + 1 ≡ p + 3 = omega arith in
-    one-byte b p (omega arith)
-    ∙ ap (λ (l : List ℕ). getD b p 0 ∷ l) (one-byte b (p + 1) (omega arith) ∙ rw e₂)
-    ∙ ap (λ (l : List ℕ). getD b p 0 ∷ getD b (p + 1) 0 ∷ l) (one-byte b (p + 2) (omega arith) ∙ rw e₃)
+    let e : p + 2 + 1 ≡ p + 3 = omega arith in
+    two-bytes b p (omega arith) ∙ ap (λ (l : List ℕ). getD b p 0 ∷ getD b (p + 1) 0 ∷ l) (one-byte b (p + 2) (omega arith) ∙ rw e)
 
 pub literals-bytes : (b : List ℕ) (p k : ℕ) → p + 3 * k ≤ length b → ((j : ℕ) → j < k → getD b (p + (3 * j + 1)) 0 < 2)
     → take (3 * k) (drop p b) ≡ encodeLiterals (literalsAt b p k)
