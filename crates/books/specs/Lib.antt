@@ -19,3 +19,4 @@ pub mod First
 pub mod Asked
 pub mod Tested
 pub mod Judged
+pub mod Examples
