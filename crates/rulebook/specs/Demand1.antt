@@ -1,5 +1,5 @@
 -- Demand 1: every call takes any bytes and refuses by number, in document 01's order, giving what document 01's table says.
-use Prim.Native.Nat.{ℕ, _/_, _%_}
+use Prim.Native.Nat.{ℕ, zero, suc, _/_, _%_}
 use mathlib.Core.Path.{_≡_, refl, sym, ap, _∙_}
 use mathlib.Core.Bool.{Bool, true, false, cond, not}
 use mathlib.Core.List.{List, [], _∷_, _++_}
@@ -18,7 +18,11 @@ use Rattle.tables.specs.declared.Checked.{Checked}
 use Rattle.tables.specs.declared.Checked.the-variants.{Sound, Flawed}
 use Rattle.tables.specs.Check.{limits, firstHigh, firstLow, rowFlawOf, flawOf, answer, checkedOf, valuesOf}
 use Rattle.tables.specs.Firsts.{high-some, low-some}
-use Rattle.rulebook.specs.Told.{Told, Refusal, flawTold, checkedTold, firstOf}
+use Rattle.meaning.specs.Rules.{Rule}
+use Rattle.meaning.specs.Given.{FirstOpenFor, open-first}
+use Rattle.makers.specs.Made.{unlessFlawed, openAs, unlessOpen, bookAlike, closedOf, madeOf}
+use Rattle.makers.specs.Writing.{fitting}
+use Rattle.rulebook.specs.Told.{Told, Refusal, flawTold, checkedTold, madeTold, firstOf, firstOf-append}
 
 -- ---- check: 1 to 5
 
@@ -71,6 +75,72 @@ module _ (n l : ℕ) (table : List ℕ) where
     ])
   ]
 
-  checked-then : (c : Checked) → ((k : ℕ) → c ≡ Sound k → k ≡ length table / l) → checkedTold c ≡ afterCheck c (0, length table / l ∷ [])
-  checked-then (Sound k) h = rw (h k refl)
-  checked-then (Flawed f) h = refl
+  -- a check gives the number of rows, or the first refusal that applies
+  pub check-told : checkedTold (checkedOf n l table) ≡ firstOf (tableRefusals n l table) (0, length table / l ∷ [])
+  unfolding checkedOf
+  check-told = go (orElse (unless (limits n l) Limits) (flawOf (alike n l) table)) ∙ check-told-then (0, length table / l ∷ [])
+    where
+      go : (o : Option Flaw) → checkedTold (answer (length table / l) o) ≡ afterCheck (answer (length table / l) o) (0, length table / l ∷ [])
+      go none = refl
+      go (some f) = refl
+
+-- ---- make: 1 to 8
+
+abbrev pub numbers : Option (List ℕ) → List ℕ
+numbers none = []
+numbers (some rows) = rows
+
+-- two row numbers are told as a pair, three as a triple
+open-told : (family : ℕ) (rows : List Row) (r : List ℕ) → FirstOpenFor family rows r → madeTold (openAs r) ≡ (7, r)
+open-told zero rows r c = absurd c
+open-told (suc zero) rows r c = rw (c .found)
+open-told (suc (suc zero)) rows r c = rw (c .found)
+open-told (suc (suc (suc f))) rows r c = rw (c .found)
+
+module _ (n l family : ℕ) (table room : List ℕ) where
+  -- the rules that the table has in the family, and its book
+  abbrev pub rules : List Rule
+  rules = rulesFor family (alike n l) (rowsOf l table)
+
+  abbrev pub book : List ℕ
+  book = encode n l family rules
+
+  -- 6 family, 7 the first rows that show the table not closed, 8 room with the length needed
+  abbrev pub bookRefusals : List Refusal
+  bookRefusals =
+      (6, ltb 3 family, [])
+      ∷ (7, found (openRows family (rowsOf l table)), numbers (openRows family (rowsOf l table)))
+      ∷ (8, not (leb (length book) (length room)), length book ∷ [])
+      ∷ []
+
+  fits-told : madeTold (fitting book (length rules) room .0)
+      ≡ cond (not (leb (length book) (length room))) (8, length book ∷ []) (0, length book ∷ length rules ∷ [])
+  unfolding fitting
+  fits-told = elim (case (leb (length book) (length room))) [ is f ↦ rw f | isnt f ↦ rw f ]
+
+  book-told : madeTold (closedOf n l family table room .0) ≡ firstOf bookRefusals (0, length book ∷ length rules ∷ [])
+  unfolding closedOf bookAlike firstOf
+  book-told = elim (case (ltb 3 family)) [
+    | is e ↦ rw e
+    | isnt e ↦ rw e (go (openRows family (rowsOf l table)) refl)
+  ]
+    where
+      go : (o : Option (List ℕ)) → openRows family (rowsOf l table) ≡ o
+          → madeTold (unlessOpen o room (fitting book (length rules) room) .0)
+          ≡ cond (found o) (7, numbers o) (cond (not (leb (length book) (length room))) (8, length book ∷ []) (0, length book ∷ length rules ∷ []))
+      go none e = fits-told
+      go (some r) e = open-told family (rowsOf l table) r (open-first family (rowsOf l table) r e)
+
+  -- making gives the book's length and number of rules, or the first refusal that applies
+  pub make-told : madeTold (madeOf n l family table room .0) ≡ firstOf (tableRefusals n l table ++ bookRefusals) (0, length book ∷ length rules ∷ [])
+  unfolding madeOf
+  make-told = go (checkedOf n l table) refl
+    where
+      whole : afterCheck (checkedOf n l table) (firstOf bookRefusals (0, length book ∷ length rules ∷ []))
+          ≡ firstOf (tableRefusals n l table ++ bookRefusals) (0, length book ∷ length rules ∷ [])
+      whole = check-told-then n l table (firstOf bookRefusals (0, length book ∷ length rules ∷ [])) ∙ sym (firstOf-append (tableRefusals n l table) bookRefusals _)
+
+      go : (c : Checked) → checkedOf n l table ≡ c
+          → madeTold (unlessFlawed c room (closedOf n l family table room) .0) ≡ firstOf (tableRefusals n l table ++ bookRefusals) (0, length book ∷ length rules ∷ [])
+      go (Sound k) e = book-told ∙ sym (ap (λ (c : Checked). afterCheck c (firstOf bookRefusals (0, length book ∷ length rules ∷ []))) e) ∙ whole
+      go (Flawed f) e = sym (ap (λ (c : Checked). afterCheck c (firstOf bookRefusals (0, length book ∷ length rules ∷ []))) e) ∙ whole
