@@ -1,6 +1,7 @@
 -- Demand 1: every call takes any bytes and refuses by number, in document 01's order, giving what document 01's table says.
 use Prim.Native.Nat.{ℕ, zero, suc, _/_, _%_}
 use mathlib.Core.Path.{_≡_, refl, sym, ap, _∙_}
+use mathlib.Core.Logic.{_≢_}
 use mathlib.Core.Bool.{Bool, true, false, cond, not}
 use mathlib.Core.List.{List, [], _∷_, _++_}
 use mathlib.Core.Option.{Option, none, some}
@@ -9,9 +10,7 @@ use lib.ListN.{length}
 use Rattle.meaning.specs.Tests.{Case, case, is, isnt}
 use Rattle.meaning.specs.Rows.{Row, alike, rowsOf}
 use Rattle.meaning.specs.Alike.{alike-length}
-use Rattle.meaning.specs.Families.{rulesFor}
 use Rattle.meaning.specs.Closed.{orElse, unless, openRows}
-use Rattle.meaning.specs.Bytes.{encode}
 use Rattle.tables.specs.declared.Flaw.{Flaw}
 use Rattle.tables.specs.declared.Flaw.the-variants.{Limits, Length, Rows, Value, Order}
 use Rattle.tables.specs.declared.Checked.{Checked}
@@ -20,9 +19,16 @@ use Rattle.tables.specs.Check.{limits, firstHigh, firstLow, rowFlawOf, flawOf, 
 use Rattle.tables.specs.Firsts.{high-some, low-some}
 use Rattle.meaning.specs.Rules.{Rule}
 use Rattle.meaning.specs.Given.{FirstOpenFor, open-first}
-use Rattle.makers.specs.Made.{unlessFlawed, openAs, unlessOpen, bookAlike, closedOf, madeOf}
-use Rattle.makers.specs.Writing.{fitting}
-use Rattle.rulebook.specs.Told.{Told, Refusal, flawTold, checkedTold, madeTold, firstOf, firstOf-append}
+use Rattle.makers.specs.Made.{numberOf, rulesMade, bytesMade, fitting, unlessFlawed, openAs, unlessOpen, bookAlike, closedOf, madeOf}
+use Rattle.makers.specs.Cases.{made-stays}
+use Rattle.meaning.specs.Bytes.{rulesIn}
+use Rattle.books.specs.declared.Reading.{Reading}
+use Rattle.books.specs.declared.Reading.the-variants.{Book, Faulty}
+use Rattle.books.specs.Faults as faults
+use Rattle.books.specs.Format.{readOf}
+use Rattle.books.specs.First.{firstUnmet, firstOver}
+use Rattle.books.specs.Tested.{judgeOf, judgeRead, testedOf}
+use Rattle.rulebook.specs.Told.{Told, Refusal, flawTold, checkedTold, madeTold, testedTold, firstOf, firstOf-append}
 
 -- ---- check: 1 to 5
 
@@ -91,19 +97,18 @@ numbers none = []
 numbers (some rows) = rows
 
 -- two row numbers are told as a pair, three as a triple
-open-told : (family : ℕ) (rows : List Row) (r : List ℕ) → FirstOpenFor family rows r → madeTold (openAs r) ≡ (7, r)
+pub open-told : (family : ℕ) (rows : List Row) (r : List ℕ) → FirstOpenFor family rows r → madeTold (openAs r) ≡ (7, r)
 open-told zero rows r c = absurd c
 open-told (suc zero) rows r c = rw (c .found)
 open-told (suc (suc zero)) rows r c = rw (c .found)
 open-told (suc (suc (suc f))) rows r c = rw (c .found)
 
 module _ (n l family : ℕ) (table room : List ℕ) where
-  -- the rules that the table has in the family, and its book
-  abbrev pub rules : List Rule
-  rules = rulesFor family (alike n l) (rowsOf l table)
+  abbrev rules : List Rule
+  rules = rulesMade n l family table
 
-  abbrev pub book : List ℕ
-  book = encode n l family rules
+  abbrev book : List ℕ
+  book = bytesMade n l family table
 
   -- 6 family, 7 the first rows that show the table not closed, 8 room with the length needed
   abbrev pub bookRefusals : List Refusal
@@ -144,3 +149,45 @@ module _ (n l family : ℕ) (table room : List ℕ) where
           → madeTold (unlessFlawed c room (closedOf n l family table room) .0) ≡ firstOf (tableRefusals n l table ++ bookRefusals) (0, length book ∷ length rules ∷ [])
       go (Sound k) e = book-told ∙ sym (ap (λ (c : Checked). afterCheck c (firstOf bookRefusals (0, length book ∷ length rules ∷ []))) e) ∙ whole
       go (Flawed f) e = sym (ap (λ (c : Checked). afterCheck c (firstOf bookRefusals (0, length book ∷ length rules ∷ []))) e) ∙ whole
+
+  -- 'changing no lent byte': a refusal leaves the room as it was
+  pub make-unchanged : numberOf (madeOf n l family table room .0) ≢ 0 → madeOf n l family table room .1 ≡ room
+  make-unchanged = made-stays n l family table room
+
+-- ---- read and test: book faults, then 16, 17
+
+-- a book's fault as the refusal that comes first
+abbrev pub faultFirst : Reading → List Refusal
+faultFirst (Book n l family rules) = []
+faultFirst (Faulty f) = (faults.numberOf f, true, faults.valuesOf f) ∷ []
+
+-- what comes after an accepted head
+abbrev pub ifAccepted : {A : Type 0} → Reading → (ℕ → ℕ → A) → A → A
+ifAccepted (Book n l family rules) f a = f n l
+ifAccepted (Faulty g) f a = a
+
+-- 16 its length, 17 the place of its first value outside its size
+abbrev pub combinationRefusals : Row → ℕ → ℕ → List Refusal
+combinationRefusals x n l =
+    (16, not (eqb (length x) l), [])
+    ∷ (17, ltb (firstOver (alike n l) x) (length x), firstOver (alike n l) x ∷ [])
+    ∷ []
+
+-- permitted, or the number of the first rule not met
+abbrev pub verdictTold : List ℕ → Row → Told
+verdictTold b x = cond (ltb (firstUnmet (rulesIn b) x) (length (rulesIn b))) (0, 0 ∷ firstUnmet (rulesIn b) x ∷ []) (0, 1 ∷ [])
+
+pub test-told : (b : List ℕ) (x : Row)
+    → testedTold (testedOf b x) ≡ firstOf (faultFirst (readOf b) ++ ifAccepted (readOf b) (combinationRefusals x) []) (verdictTold b x)
+unfolding testedOf judgeOf firstOf
+test-told b x = go (readOf b)
+  where
+    go : (r : Reading) → testedTold (judgeRead b x r) ≡ firstOf (faultFirst r ++ ifAccepted r (combinationRefusals x) []) (verdictTold b x)
+    go (Faulty f) = refl
+    go (Book n l family rules) = rw (alike-length n l) (elim (case (eqb (length x) l)) [
+      | isnt e ↦ rw e
+      | is e ↦ rw e (elim (case (ltb (firstOver (alike n l) x) (length x))) [
+        | is f ↦ rw f
+        | isnt f ↦ rw f (elim (case (ltb (firstUnmet (rulesIn b) x) (length (rulesIn b)))) [ is g ↦ rw g | isnt g ↦ rw g ])
+      ])
+    ])
