@@ -1,6 +1,6 @@
 -- Holds: what stands in an accepted book from a place on, for those who walk it by places and do not open the reader.
--- holds-start gives it for all rules, at place 7; while there is a rule, holds-good and holds-inside tell of the one at the place,
--- and holds-next goes on at its end. `holds-on` is that step as a loop over i makes it; fits-at tells of one literal.
+-- holds-start gives it for all rules, at place 7. While there is a rule, holds-good, holds-inside and holds-record tell of the one at
+-- the place, and holds-next goes on at its end; holds-on is that step as a loop over i makes it. setting-at tells of one literal.
 use Prim.Native.Nat.{ℕ, zero, suc, _+_, _*_, _-_, _≤_, _<_}
 use native.Mathlib.Omega.{arith}
 use mathlib.Core.Path.{_≡_, refl, ap, _∙_}
@@ -46,9 +46,6 @@ placeAt-above b p zero = omega arith
 placeAt-above b p (suc k) = omega (arith, placeAt-above b (endAt b p) k)
 
 module _ (b : List ℕ) (ns : Sizes) (family p k : ℕ) (a : Holds b ns family p k) where
-  pub holds-place : p + 2 ≤ length b
-  holds-place = omega (arith, placeAt-above b p k, a .inside)
-
   pub holds-good : 0 < k → Good ns family (ruleAt b p)
   unfolding rulesAt
   holds-good h = let e : k ≡ suc (k - 1) = omega arith in rw e at (a .good) .0
