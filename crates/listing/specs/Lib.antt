@@ -16,3 +16,7 @@ pub mod Turns
 pub mod Resuming
 pub mod Starting
 pub mod Copying
+pub mod Filled
+pub mod Ending
+pub mod Pages
+pub mod Paging

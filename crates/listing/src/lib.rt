@@ -1,6 +1,10 @@
 // Listing the permitted combinations of a book by pages: the cursor and its moves, and the page.
 mod cursor;
+mod paging;
 mod scan;
 mod walk;
 
 pub use cursor::Cursor;
+pub use paging::Outcome;
+pub use paging::Paged;
+pub use paging::page;

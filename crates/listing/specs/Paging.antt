@@ -1,0 +1,221 @@
+-- Paging: what a page of an accepted book asks, and what each way out of it gives.
+use Prim.Native.Nat.{ℕ, suc, _/_, _≤_, _<_}
+use native.Mathlib.Nat.{div-mul-le-self, le-div-iff-mul-le}
+use native.Mathlib.Omega.{arith}
+use mathlib.Core.Path.{_≡_, refl, sym, ap, _∙_}
+use mathlib.Core.Bool.{Bool, true, false, not, _&&_, _||_}
+use mathlib.Core.List.{List, [], _∷_}
+use lib.Dec.{eqb}
+use lib.ListN.{length, getD, take, replicate}
+use borrow.Author.Tests.{eq-eqb, ne-eqb, lt-ltb, le-ltb, not-true, not-false}
+use Rattle.meaning.specs.Lists.{isNil, lastOr}
+use Rattle.meaning.specs.Rows.{Row, Sizes, alike}
+use Rattle.meaning.specs.Bytes.{rulesIn, wordAt}
+use Rattle.meaning.specs.Listing.{dead, shown, front, after}
+use Rattle.meaning.specs.After.{SomeValues, allLast, reached-last}
+use Rattle.meaning.specs.Paged.{front-none, page-reached, page-begins}
+use Rattle.meaning.specs.Alike.{alike-lent, alike-length}
+use Rattle.books.specs.declared.Fault.{Fault}
+use Rattle.books.specs.declared.Reading.{Reading}
+use Rattle.books.specs.declared.Reading.the-variants.{Book, Faulty}
+use Rattle.books.specs.Format.{readOf}
+use Rattle.books.specs.Holds.{holds-start}
+use Rattle.books.specs.Accepted.{headed}
+use Rattle.listing.specs.declared.cursor.Cursor.{Cursor}
+use Rattle.listing.specs.declared.walk.Walk.{Walk}
+use Rattle.listing.specs.declared.paging.Outcome.the-variants.{Listed, BadCursor, NoRoom, BadBudget, Faulty as Unread}
+use Rattle.listing.specs.Sizes.{Limited, Limits, lent-limited}
+use Rattle.listing.specs.Cursors.{prefixOf, cursorOf, cursorOk}
+use Rattle.listing.specs.CursorTests.{Tested}
+use Rattle.listing.specs.Prefixes.{Plain, prefix-cursor, cursor-len, plain-cursor, Good, good-of, begins-length}
+use Rattle.listing.specs.Standing.{AllStand, stand-all}
+use Rattle.listing.specs.Course.{pastOf, past-after}
+use Rattle.listing.specs.Steps.{S, runs}
+use Rattle.listing.specs.Starting.{Resumes}
+use Rattle.listing.specs.Filled.{lastD, last-dead, filledOf, page-filled}
+use Rattle.listing.specs.Ending.{finishedOf}
+use Rattle.listing.specs.Pages.{P, refused, listedIn, pageIn, pageBy, pageOf}
+
+-- ---- what is asked
+
+-- the rules of the book stand from place 7 on, and the sizes are within their limits
+pub record Standard (b : List ℕ) (rules : ℕ) (ns : Sizes) : Type 0 where
+  pub limited : Limited ns
+  pub settings : 1 ≤ length ns
+  pub stand : AllStand b 7 rules
+  pub count : wordAt b 5 ≡ rules
+  pub few : rules ≤ 24576
+
+-- and no refusal is due
+pub record Starts (b : List ℕ) (rules : ℕ) (ns : Sizes) (c : Cursor) (o : List ℕ) (budget : ℕ) : Type 0 where
+  pub standard : Standard b rules ns
+  pub good : Good ns c
+  pub row : length ns ≤ length o
+  pub step : 1 ≤ budget
+
+-- the same of a book of edition 1
+pub record Numbers (b : List ℕ) (n l rules : ℕ) : Type 0 where
+  pub limits : Limits n l
+  pub stand : AllStand b 7 rules
+  pub count : wordAt b 5 ≡ rules
+  pub few : rules ≤ 24576
+
+-- ---- the walk's end is the page's
+
+some-values : (ns : Sizes) → Limited ns → SomeValues ns
+some-values ns l = go ns (l .some)
+  where
+    go : (ns : Sizes) → ((k : ℕ) → k < length ns → 1 ≤ getD ns k 0) → SomeValues ns
+    go [] h = tt
+    go (n ∷ ns) h = (h 0 (omega arith), go ns (λ k i. h (suc k) (omega arith)))
+
+flip : (a b t : Bool) → (a || b) && t ≡ t && (b || a)
+flip true true true = refl
+flip true true false = refl
+flip true false true = refl
+flip true false false = refl
+flip false true true = refl
+flip false true false = refl
+flip false false true = refl
+flip false false false = refl
+
+module _ (ns : Sizes) (d : Row → Bool) (p : Row) (fit budget : ℕ) (o : List ℕ) where
+  abbrev F : List Row
+  F = front (shown ns d) fit budget (after ns d p)
+
+  -- what the code decides at the last prefix is that no visited prefix comes after it
+  finished-is : SomeValues ns → 1 ≤ fit → 1 ≤ budget → finishedOf ns (filledOf ns d p F o .0) ≡ isNil (after ns d (lastOr p F))
+  unfolding finishedOf
+  finished-is some r b = go F refl
+    where
+      go : (f : List Row) → F ≡ f → finishedOf ns (filledOf ns d p f o .0) ≡ isNil (after ns d (lastOr p f))
+      go [] e = sym (ap isNil (front-none (shown ns d) fit budget (after ns d p) r b e))
+      go (x ∷ f) e =
+          let q : Row = lastOr x f in
+          let v = page-reached ns d fit budget p x f e in
+          ap (λ (u : Bool). u || ((eqb (cursorOf q .len) (length ns) || lastD d (d x) f) && allLast ns (prefixOf (cursorOf q)))) (ne-eqb (suc (length f)) 0 (λ h. omega arith))
+          ∙ ap (λ (u : Row). (eqb (cursorOf q .len) (length ns) || lastD d (d x) f) && allLast ns u) (prefix-cursor q)
+          ∙ ap (λ (k : ℕ). (eqb k (length ns) || lastD d (d x) f) && allLast ns q) (cursor-len q)
+          ∙ ap (λ (u : Bool). (eqb (length q) (length ns) || u) && allLast ns q) (last-dead d x f)
+          ∙ flip (eqb (length q) (length ns)) (d q) (allLast ns q)
+          ∙ sym (reached-last ns d q some v)
+
+module _ (b : List ℕ) (rules : ℕ) (ns : Sizes) (c : Cursor) (o : List ℕ) (budget : ℕ) (y : Starts b rules ns c o budget) where
+  abbrev d : Row → Bool
+  d = dead (rulesIn b)
+
+  abbrev fit : ℕ
+  fit = length o / length ns
+
+  pub listed-resumes : Resumes b rules ns o c fit
+  listed-resumes = record {
+    limited = y .standard .limited;
+    good = y .good;
+    cells = div-mul-le-self (length o) (length ns);
+    stand = y .standard .stand;
+    count = y .standard .count;
+    few = y .standard .few;
+  }
+
+  some-fit : 1 ≤ fit
+  some-fit = le-div-iff-mul-le {k = length ns} {x = 1} {y = length o} (y .standard .settings) .1 (omega (arith, y .row))
+
+  module _ (w : Walk) (o′ : List ℕ)
+      (h : _≡_ {A = S} (w, o′) (runs d (length ns) fit budget (pastOf d ns [] (prefixOf c)) (record { last = c; dead = false; rows = 0; steps = 0 }, o))) where
+    abbrev seen : List Row
+    seen = F ns d (prefixOf c) fit budget o
+
+    walked : _≡_ {A = S} (w, o′) (filledOf ns d (prefixOf c) seen o)
+    walked =
+        h ∙ ap (λ (L : List Row). runs d (length ns) fit budget L (record { last = c; dead = false; rows = 0; steps = 0 }, o)) (past-after d ns (prefixOf c) (y .good .fits))
+        ∙ page-filled ns d fit budget (after ns d (prefixOf c)) c o (y .good .plain) (div-mul-le-self (length o) (length ns))
+
+    pub listed-last : Plain (w .last) × (w .last .len ≤ length ns)
+    listed-last =
+        let q : Row = lastOr (prefixOf c) seen in
+        let e : w .last ≡ cursorOf q = ap (λ (t : S). t .0 .last) walked in
+        let i = begins-length ns q (page-begins ns d fit budget (prefixOf c) (y .good .fits)) in
+        (rw e (plain-cursor q (omega (arith, y .standard .limited .short))), omega (arith, ap (λ (x : Cursor). x .len) e ∙ cursor-len q))
+
+    pub listed-page : (f : Bool) → f ≡ finishedOf ns w
+        → _≡_ {A = P} (record { cursor = w .last; outcome = Listed (w .rows) (w .steps) f }, o′) (listedIn ns d c budget o)
+    unfolding listedIn
+    listed-page f g =
+        let g′ = g ∙ ap (λ (t : S). finishedOf ns (t .0)) walked ∙ finished-is ns d (prefixOf c) fit budget o (some-values ns (y .standard .limited)) some-fit (y .step) in
+        ap (λ (u : Bool). (record { cursor = w .last; outcome = Listed (w .rows) (w .steps) u }, o′)) g′
+        ∙ ap (λ (t : S). (record { cursor = t .0 .last; outcome = Listed (t .0 .rows) (t .0 .steps) (isNil (after ns d (lastOr (prefixOf c) seen))) }, t .1)) walked
+
+-- ---- the refusals
+
+module _ (ns : Sizes) (d : Row → Bool) (c : Cursor) (budget : ℕ) (o : List ℕ) (t : Bool) (k : Tested ns c t) where
+  pub page-bad : not t ≡ true → refused c BadCursor o ≡ pageIn ns d c budget o
+  unfolding pageIn
+  page-bad h = rw (sym (k .is) ∙ not-true t h)
+
+  module _ (h : not t ≡ false) where
+    ok : cursorOk ns c ≡ true
+    ok = sym (k .is) ∙ not-false t h
+
+    pub page-no-room : length o < length ns → refused c NoRoom o ≡ pageIn ns d c budget o
+    unfolding pageIn
+    page-no-room r = rw (ok, lt-ltb (length o) (length ns) r)
+
+    module _ (r : length ns ≤ length o) where
+      pub page-no-budget : budget ≡ 0 → refused c BadBudget o ≡ pageIn ns d c budget o
+      unfolding pageIn
+      page-no-budget e = rw (ok, le-ltb (length o) (length ns) r, eq-eqb budget 0 e)
+
+      module _ (e : budget ≡ 0 → ⊥) where
+        pub page-big-budget : 65535 < budget → refused c BadBudget o ≡ pageIn ns d c budget o
+        unfolding pageIn
+        page-big-budget m = rw (ok, le-ltb (length o) (length ns) r, ne-eqb budget 0 e, lt-ltb 65535 budget m)
+
+        pub page-listed : budget ≤ 65535 → (x : P) → x ≡ listedIn ns d c budget o → x ≡ pageIn ns d c budget o
+        unfolding pageIn
+        page-listed m x q = q ∙ sym (rw (ok, le-ltb (length o) (length ns) r, ne-eqb budget 0 e, le-ltb 65535 budget m))
+
+        pub page-starts : (b : List ℕ) (rules : ℕ) → Standard b rules ns → Starts b rules ns c o budget
+        page-starts b rules s = record { standard = s; good = good-of ns c (s .limited .short) (k .sixteen (not-false t h)) ok; row = r; step = omega arith }
+
+-- ---- a book of edition 1
+
+module _ (b : List ℕ) (n l rules m : ℕ) (y : Numbers b n l rules) (e : m ≡ n) where
+  lent : take l (replicate 16 m) ≡ alike n l
+  lent = rw (e, alike-lent n l (y .limits .short))
+
+  pub alike-standard : Standard b rules (take l (replicate 16 m))
+  alike-standard = record {
+    limited = lent-limited n l m (y .limits) e;
+    settings = rw lent (omega (arith, alike-length n l, y .limits .settings));
+    stand = y .stand;
+    count = y .count;
+    few = y .few;
+  }
+
+  pub page-alike : (d : Row → Bool) (c : Cursor) (budget : ℕ) (o : List ℕ) (x : P) → x ≡ pageIn (take l (replicate 16 m)) d c budget o → x ≡ pageIn (alike n l) d c budget o
+  page-alike d c budget o x q = q ∙ ap (λ (ns : Sizes). pageIn ns d c budget o) lent
+
+-- ---- by what reading the book gives
+
+module _ (b : List ℕ) (r : Reading) (e : r ≡ readOf b) (c : Cursor) (budget : ℕ) (o : List ℕ) where
+  pub page-unread : (f : Fault) → r ≡ Faulty f → refused c (Unread f) o ≡ pageOf b c budget o
+  unfolding pageOf pageBy
+  page-unread f q = rw (sym e ∙ q)
+
+  module _ (n l family rules : ℕ) (q : r ≡ Book n l family rules) where
+    pub page-numbers : Numbers b n l rules
+    page-numbers =
+        let h : readOf b ≡ Book n l family rules = sym e ∙ q in
+        let w = headed b n l family rules h in
+        let f = w .well-formed in
+        let k : Limits n l = record { some = f .n-low; few = f .n-high; settings = f .l-low; short = f .l-high } in
+        record {
+          limits = k;
+          stand = stand-all b (alike n l) family 7 rules (rw (alike-lent n l (f .l-high)) at (lent-limited n l n k refl)) (holds-start b n l family rules h);
+          count = w .count-is;
+          few = omega (arith, f .few, w .count);
+        }
+
+    pub page-read : (x : P) → x ≡ pageIn (alike n l) (dead (rulesIn b)) c budget o → x ≡ pageOf b c budget o
+    unfolding pageOf pageBy
+    page-read x p = p ∙ sym (rw (sym e ∙ q))
