@@ -17,7 +17,11 @@ use Rattle.hand.specs.Hand.{ruleIn, Holding}
 use Rattle.makers.specs.declared.sending.Tally.{Tally}
 use Rattle.makers.specs.Sending.{State, send, send-more, sends, sendsFor, sendsFor-append, Countable, Sent}
 use Rattle.makers.specs.Edges.{each-on, each-end}
-use Rattle.makers.specs.Making.{Given, given-count}
+use Rattle.makers.specs.Making.{Given, given-count, SentRow}
+
+-- all rules of the table are sent: at most 33 a row
+abbrev pub SentAll : Sizes → List ℕ → ℕ → Tally → List ℕ → Tally → List ℕ → Type 0
+SentAll ns table family = Sent 16896 family (rowsOf (length ns) table) (general ns (rowsOf (length ns) table))
 
 -- ---- rows
 
@@ -60,7 +64,7 @@ module _ (ns : Sizes) (table : List ℕ) (rows family : ℕ) (t₀ : Tally) (b�
       number = omega (arith, now .more, now .countable .number, now .given .most);
     }
 
-    pub rows-on : (t′ : Tally) (b′ : List ℕ) → k < rows → Sent 33 family R (rowRules ns R k) t b t′ b′ → length b′ ≡ length b → RowsAt (k + 1) t′ b′
+    pub rows-on : (t′ : Tally) (b′ : List ℕ) → k < rows → SentRow ns table k family t b t′ b′ → length b′ ≡ length b → RowsAt (k + 1) t′ b′
     rows-on t′ b′ h sent long = record {
       given = now .given;
       countable = now .countable;
@@ -71,7 +75,7 @@ module _ (ns : Sizes) (table : List ℕ) (rows family : ℕ) (t₀ : Tally) (b�
       long = long ∙ now .long;
     }
 
-    pub rows-end : rows ≤ k → Sent 16896 family R (general ns R) t₀ b₀ t b
+    pub rows-end : rows ≤ k → SentAll ns table family t₀ b₀ t b
     unfolding sendsFor sends
     rows-end h = record {
       state = sym (now .whole ∙ rw (each-end (rowRules ns R) k rows h));
@@ -91,7 +95,7 @@ no-rows [] e = refl
 no-rows (m ∷ rows) e = absurd (omega arith)
 
 pub rows-none : (ns : Sizes) (table : List ℕ) (family : ℕ) (h : Hand) (t t′ : Tally) (b b′ : List ℕ) → length table / length ns ≡ 0 → Holding [] h
-    → _≡_ {A = State} (t′, b′) (send (ruleIn h) (t, b)) → Sent 16896 family (rowsOf (length ns) table) (general ns (rowsOf (length ns) table)) t b t′ b′
+    → _≡_ {A = State} (t′, b′) (send (ruleIn h) (t, b)) → SentAll ns table family t b t′ b′
 unfolding general sendsFor sends
 rows-none ns table family h t t′ b b′ e hd q =
     let none = no-rows (rowsOf (length ns) table) (rows-count (length ns) table ∙ e) in

@@ -65,6 +65,10 @@ pub record Sides (ns : Sizes) (table : List ℕ) (m : Row) (g from : ℕ) : Type
   pub begun : from ≤ length ns
   pub sign : g < 2
 
+-- the rules of the side from that setting on are sent
+abbrev pub SentEdges : Sizes → List ℕ → Row → ℕ → ℕ → ℕ → Tally → List ℕ → Tally → List ℕ → Type 0
+SentEdges ns table m g from family = Sent 16 family (rowsOf (length ns) table) (each (edgeAt g ns m) from (length ns - from))
+
 -- ---- settings
 
 differs-known : (i n v l : ℕ) → i < l → Known l (differs i n v)
@@ -168,7 +172,7 @@ module _ (ns : Sizes) (m : Row) (g from family : ℕ) (table : List ℕ) (t₀ :
         long = long ∙ now .long;
       }
 
-  pub edges-end : (i : ℕ) (h : Hand) (t : Tally) (b : List ℕ) → EdgesAt i h t b → length ns ≤ i → Sent 16 family R (rest from) t₀ b₀ t b
+  pub edges-end : (i : ℕ) (h : Hand) (t : Tally) (b : List ℕ) → EdgesAt i h t b → length ns ≤ i → SentEdges ns table m g from family t₀ b₀ t b
   unfolding sendsFor sends
   edges-end i h t b now out = record {
     state = sym (now .whole ∙ rw (each-end (edgeAt g ns m) i (length ns) out));

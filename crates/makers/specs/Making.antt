@@ -14,13 +14,13 @@ use Rattle.meaning.specs.Members.{sound-next}
 use Rattle.meaning.specs.Parting.{less-inside, before-less}
 use Rattle.makers.specs.declared.sending.Tally.{Tally}
 use Rattle.makers.specs.Sending.{State, sends, sendsFor, sendsFor-append, Sent}
-use Rattle.makers.specs.Edges.{edgeAt, edge-left, edge-right, Sides}
-use Rattle.makers.specs.Middle.{Apart}
+use Rattle.makers.specs.Edges.{edgeAt, edge-left, edge-right, Sides, SentEdges}
+use Rattle.makers.specs.Middle.{Apart, SentBetween}
 use Rattle.meaning.specs.Lists.{each}
 use Rattle.meaning.specs.ListLaws.{each-ext}
 use Rattle.meaning.specs.Rows.{Row, Sizes, at, row, rowsOf, sound}
 use Rattle.meaning.specs.Rules.{Rule}
-use Rattle.meaning.specs.General.{split, fork, leftAt, rightAt, midAt, middle, rowRules}
+use Rattle.meaning.specs.General.{split, fork, leftAt, rightAt, middle, rowRules}
 
 -- a sound table of so many rows over the sizes
 pub record Given (ns : Sizes) (table : List ℕ) (rows : ℕ) : Type 0 where
@@ -29,6 +29,14 @@ pub record Given (ns : Sizes) (table : List ℕ) (rows : ℕ) : Type 0 where
   pub count : rows ≡ length table / length ns
   pub most : rows ≤ 512
   pub right : T (sound ns (rowsOf (length ns) table))
+
+-- the middle rule of row k is sent
+abbrev pub SentMiddle : Sizes → List ℕ → ℕ → ℕ → Tally → List ℕ → Tally → List ℕ → Type 0
+SentMiddle ns table k family = Sent 1 family (rowsOf (length ns) table) (middle ns (rowsOf (length ns) table) k)
+
+-- all rules of row k are sent: at most 16 left, 16 right and the middle
+abbrev pub SentRow : Sizes → List ℕ → ℕ → ℕ → Tally → List ℕ → Tally → List ℕ → Type 0
+SentRow ns table k family = Sent 33 family (rowsOf (length ns) table) (rowRules ns (rowsOf (length ns) table) k)
 
 module _ (ns : Sizes) (table : List ℕ) (rows : ℕ) (given : Given ns table rows) where
   abbrev R : List Row
@@ -68,7 +76,7 @@ module _ (ns : Sizes) (table : List ℕ) (rows : ℕ) (given : Given ns table ro
   -- ---- the middle
 
   module _ (k : ℕ) (inside : k < rows) where
-    pub middle-none : (family : ℕ) (t : Tally) (b : List ℕ) → rows ≤ k + 1 → Sent 1 family R (middle ns R k) t b t b
+    pub middle-none : (family : ℕ) (t : Tally) (b : List ℕ) → rows ≤ k + 1 → SentMiddle ns table k family t b t b
     unfolding middle sendsFor sends
     middle-none family t b h = record {
       state = rw (le-ltb (suc k) (length R) (omega (arith, given-count)));
@@ -90,7 +98,7 @@ module _ (ns : Sizes) (table : List ℕ) (rows : ℕ) (given : Given ns table ro
           inside = rw (s, e, e′, add-one) (split-inside k (omega arith));
         }
 
-        pub middle-sent : (family : ℕ) (t t′ : Tally) (b b′ : List ℕ) → Sent 1 family R (midAt ns m m′ i) t b t′ b′ → Sent 1 family R (middle ns R k) t b t′ b′
+        pub middle-sent : (family : ℕ) (t t′ : Tally) (b b′ : List ℕ) → SentBetween ns table m m′ i family t b t′ b′ → SentMiddle ns table k family t b t′ b′
         unfolding middle
         middle-sent family t t′ b b′ sent =
             let it = rw (s, e, e′, add-one) at sent in
@@ -99,9 +107,9 @@ module _ (ns : Sizes) (table : List ℕ) (rows : ℕ) (given : Given ns table ro
     -- ---- a row
 
     pub row-sent : (family f f′ : ℕ) (m : Row) (t t₁ t₂ t₃ : Tally) (b b₁ b₂ b₃ : List ℕ) → m ≡ row R k → f ≡ fork R k → f′ ≡ fork R (k + 1)
-        → Sent 16 family R (each (edgeAt 1 ns m) f (length ns - f)) t b t₁ b₁
-        → Sent 16 family R (each (edgeAt 0 ns m) f′ (length ns - f′)) t₁ b₁ t₂ b₂
-        → Sent 1 family R (middle ns R k) t₂ b₂ t₃ b₃ → Sent 33 family R (rowRules ns R k) t b t₃ b₃
+        → SentEdges ns table m 1 f family t b t₁ b₁
+        → SentEdges ns table m 0 f′ family t₁ b₁ t₂ b₂
+        → SentMiddle ns table k family t₂ b₂ t₃ b₃ → SentRow ns table k family t b t₃ b₃
     unfolding rowRules
     row-sent family f f′ m t t₁ t₂ t₃ b b₁ b₂ b₃ e q q′ left right mid =
         let ls = each (leftAt ns m) f (length ns - f) in

@@ -27,6 +27,10 @@ pub record Apart (ns : Sizes) (table : List ℕ) (m m′ : Row) (i : ℕ) : Type
   pub same′ : length m′ ≡ length ns
   pub inside : i < length ns
 
+-- the rule between them is sent
+abbrev pub SentBetween : Sizes → List ℕ → Row → Row → ℕ → ℕ → Tally → List ℕ → Tally → List ℕ → Type 0
+SentBetween ns table m m′ i family = Sent 1 family (rowsOf (length ns) table) (midAt ns m m′ i)
+
 module _ (ns : Sizes) (table : List ℕ) (m m′ : Row) (i : ℕ) (asked : Apart ns table m m′ i) (h : Hand) (hd : Holding (earlier ns m i) h) where
   pub apart-spare : Spare h 2
   apart-spare = earlier-few ns m i h (omega (arith, asked .few, asked .inside)) hd
@@ -53,7 +57,7 @@ module _ (ns : Sizes) (table : List ℕ) (m m′ : Row) (i : ℕ) (asked : Apart
         rows = asked .rows;
       }
 
-      pub apart-sent : (family : ℕ) (rows : List Row) (ruled : Bool) (u u′ : Tally) (b b′ : List ℕ) → ruled ≡ ltb (at m i + 1) (at m′ i)
-          → Sent 1 family rows (opt ruled (ruleIn t)) u b u′ b′ → Sent 1 family rows (midAt ns m m′ i) u b u′ b′
+      pub apart-sent : (family : ℕ) (ruled : Bool) (u u′ : Tally) (b b′ : List ℕ) → ruled ≡ ltb (at m i + 1) (at m′ i)
+          → Sent 1 family (rowsOf (length ns) table) (opt ruled (ruleIn t)) u b u′ b′ → SentBetween ns table m m′ i family u b u′ b′
       unfolding midAt
-      apart-sent family rows ruled u u′ b b′ o sent = rw (o, rule-is) at sent
+      apart-sent family ruled u u′ b b′ o sent = rw (o, rule-is) at sent

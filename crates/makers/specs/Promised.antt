@@ -17,7 +17,7 @@ use Rattle.meaning.specs.Bounds.{made-well-formed}
 use Rattle.meaning.specs.Bytes.{rulesIn}
 use Rattle.meaning.specs.Encoded.{encode-rules}
 use Rattle.meaning.specs.Flat.{rows-count}
-use Rattle.books.specs.declared.Reading.the-variants.{Book as Read}
+use Rattle.books.specs.declared.Reading.{Reading}
 use Rattle.books.specs.Format.{readOf}
 use Rattle.books.specs.Written.{written}
 use Rattle.tables.specs.Promised.{checked-sound}
@@ -78,7 +78,7 @@ module _ (n l family : ℕ) (table : List ℕ) where
     pub answer : madeOf n l family table room .0 ≡ Book (length bytes) (length rules)
     pub start : take (length bytes) (madeOf n l family table room .1) ≡ bytes
     pub beyond : drop (length bytes) (madeOf n l family table room .1) ≡ drop (length bytes) room
-    pub accepted : readOf bytes ≡ Read n l family (length rules)
+    pub accepted : readOf bytes ≡ Reading.Book n l family (length rules)
     pub rules-are : rulesIn bytes ≡ rules
     pub permits : (x : Row) → T (within (alike n l) x) → T (allMet rules x) ↔ List·Memᴰ x (rowsOf l table)
 

@@ -99,6 +99,7 @@ pub record Countable (t : Tally) (k : ℕ) : Type 0 where
   pub bytes : t .length + 99 * k ≤ 4294967295
   pub number : t .rules + k ≤ 4294967295
 
+-- the rules, reduced for the family, are sent from the state (t, old) on, at most k of them
 pub record Sent (k family : ℕ) (rows : List Row) (rs : List Rule) (t : Tally) (old : List ℕ) (t′ : Tally) (new : List ℕ) : Type 0 where
   pub state : _≡_ {A = State} (t′, new) (sendsFor family rows rs (t, old))
   pub longer : t′ .length ≤ t .length + 99 * k

@@ -13,7 +13,7 @@ use hand::Hand;
 use hand::empty;
 use hand::push;
 
-// A setting as a byte.
+// A setting or a size as a byte.
 pub fn byte(i: usize) -> u8
     requires { ⌜ i < 256 ⌝ }
     ensures { λ r. ⌜ r ≡ i ⌝ }

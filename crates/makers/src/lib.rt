@@ -6,6 +6,7 @@ mod sending;
 mod slots;
 mod writing;
 
+use crate::earlier::byte;
 use crate::writing::book;
 use tables::Checked;
 use tables::Closure;
@@ -33,20 +34,12 @@ pub enum Made {
     Room(usize),
 }
 
-// A size as a byte.
-fn narrow(n: usize) -> u8
-    requires { ⌜ n ≤ 64 ⌝ }
-    ensures { λ r. ⌜ r ≡ n ⌝ }
-{
-    n as u8
-}
-
 // The book of a sound table over l settings of n values each, in a family that it is closed for; or refusal 8.
 fn make_alike(n: usize, l: usize, family: usize, table: &[u8], room: &mut [u8]) -> Made
     requires { ⌜ Passes n l (now table) (length (now table) / l) × (family ≤ 3) ⌝ }
     ensures { λ r. ⌜ _≡_ {A = Made × List ℕ} (r, now (room .exit)) (bookAlike n l family (now (table .entry)) (now (room .entry))) ⌝ }
 {
-    let space = [narrow(n); 16];
+    let space = [byte(n); 16];
     let sizes = &space[..l];
     book(n, sizes, family, table, room)
 }

@@ -13,11 +13,10 @@ use hand::empty;
 use hand::push;
 ghost use Prim.Native.Nat.{_+_, _/_, _<_};
 ghost use lib.ListN.{length};
-ghost use Rattle.meaning.specs.Rows.{rowsOf};
-ghost use Rattle.meaning.specs.General.{midAt, middle, rowRules, general};
-ghost use Rattle.makers.specs.Sending.{Countable, Sent};
-ghost use Rattle.makers.specs.Middle.{Apart};
-ghost use Rattle.makers.specs.Making.{Given};
+ghost use Rattle.makers.specs.Sending.{Countable};
+ghost use Rattle.makers.specs.Middle.{Apart, SentBetween};
+ghost use Rattle.makers.specs.Making.{Given, SentMiddle, SentRow};
+ghost use Rattle.makers.specs.AllRows.{SentAll};
 
 // The middle rule between two rows that part at setting i.
 fn between(
@@ -31,7 +30,7 @@ fn between(
     tally: Tally,
 ) -> Tally
     requires { ⌜ Apart (now sizes) (now table) (now low) (now high) i × Countable tally 1 ⌝ }
-    ensures { λ r. ⌜ Sent 1 family (rowsOf (length (now (sizes .entry))) (now (table .entry))) (midAt (now (sizes .entry)) (now (low .entry)) (now (high .entry)) i) tally (now (room .entry)) r (now (room .exit)) ⌝ }
+    ensures { λ r. ⌜ SentBetween (now (sizes .entry)) (now (table .entry)) (now (low .entry)) (now (high .entry)) i family tally (now (room .entry)) r (now (room .exit)) ⌝ }
 {
     let before = differs_before(sizes, low, i);
     let setting = byte(i);
@@ -52,7 +51,7 @@ fn middle(
     tally: Tally,
 ) -> Tally
     requires { ⌜ Given (now sizes) (now table) rows × (k < rows) × Countable tally 1 ⌝ }
-    ensures { λ r. ⌜ Sent 1 family (rowsOf (length (now (sizes .entry))) (now (table .entry))) (middle (now (sizes .entry)) (rowsOf (length (now (sizes .entry))) (now (table .entry))) k) tally (now (room .entry)) r (now (room .exit)) ⌝ }
+    ensures { λ r. ⌜ SentMiddle (now (sizes .entry)) (now (table .entry)) k family tally (now (room .entry)) r (now (room .exit)) ⌝ }
 {
     let next = k + 1;
     if rows <= next {
@@ -75,7 +74,7 @@ fn row_rules(
     tally: Tally,
 ) -> Tally
     requires { ⌜ Given (now sizes) (now table) rows × (k < rows) × Countable tally 33 ⌝ }
-    ensures { λ r. ⌜ Sent 33 family (rowsOf (length (now (sizes .entry))) (now (table .entry))) (rowRules (now (sizes .entry)) (rowsOf (length (now (sizes .entry))) (now (table .entry))) k) tally (now (room .entry)) r (now (room .exit)) ⌝ }
+    ensures { λ r. ⌜ SentRow (now (sizes .entry)) (now (table .entry)) k family tally (now (room .entry)) r (now (room .exit)) ⌝ }
 {
     let left = fork(table, sizes.len(), rows, k);
     let right = fork(table, sizes.len(), rows, k + 1);
@@ -95,7 +94,7 @@ fn row_by_row(
     tally: Tally,
 ) -> Tally
     requires { ⌜ Given (now sizes) (now table) rows × (0 < rows) × Countable tally 16896 ⌝ }
-    ensures { λ r. ⌜ Sent 16896 family (rowsOf (length (now (sizes .entry))) (now (table .entry))) (general (now (sizes .entry)) (rowsOf (length (now (sizes .entry))) (now (table .entry)))) tally (now (room .entry)) r (now (room .exit)) ⌝ }
+    ensures { λ r. ⌜ SentAll (now (sizes .entry)) (now (table .entry)) family tally (now (room .entry)) r (now (room .exit)) ⌝ }
 {
     let mut sent = tally;
     let mut k: usize = 0;
@@ -109,7 +108,7 @@ fn row_by_row(
 // The rules of a table in a family; for no rows one rule without literals.
 pub fn rules(sizes: &[u8], family: usize, table: &[u8], room: &mut [u8], tally: Tally) -> Tally
     requires { ⌜ Given (now sizes) (now table) (length (now table) / length (now sizes)) × Countable tally 16896 ⌝ }
-    ensures { λ r. ⌜ Sent 16896 family (rowsOf (length (now (sizes .entry))) (now (table .entry))) (general (now (sizes .entry)) (rowsOf (length (now (sizes .entry))) (now (table .entry)))) tally (now (room .entry)) r (now (room .exit)) ⌝ }
+    ensures { λ r. ⌜ SentAll (now (sizes .entry)) (now (table .entry)) family tally (now (room .entry)) r (now (room .exit)) ⌝ }
 {
     let rows = table.len() / sizes.len();
     if rows == 0 {

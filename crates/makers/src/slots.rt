@@ -1,14 +1,13 @@
 // The slots of a row: each gives a rule or none. Left and right at each setting, and the middle.
 ghost use mathlib.Core.Path.{_≡_};
-ghost use Prim.Native.Nat.{_+_, _-_, _≤_, _<_};
+ghost use Prim.Native.Nat.{_+_, _<_};
 ghost use lib.Dec.{ltb};
-ghost use lib.ListN.{length};
-ghost use Rattle.meaning.specs.Lists.{opt, each};
+ghost use Rattle.meaning.specs.Lists.{opt};
 ghost use Rattle.meaning.specs.Rows.{rowsOf};
 ghost use Rattle.hand.specs.Hand.{ruleIn};
 ghost use Rattle.hand.specs.Known.{Ready};
 ghost use Rattle.makers.specs.Sending.{Countable, Sent};
-ghost use Rattle.makers.specs.Edges.{ruledOf, edgeAt, Sides};
+ghost use Rattle.makers.specs.Edges.{ruledOf, Sides, SentEdges};
 use crate::earlier::byte;
 use crate::earlier::differ;
 use crate::earlier::differs_before;
@@ -70,7 +69,7 @@ pub fn edges(
     tally: Tally,
 ) -> Tally
     requires { ⌜ Sides (now sizes) (now table) (now row) side from × Countable tally 16 ⌝ }
-    ensures { λ r. ⌜ Sent 16 family (rowsOf (length (now (sizes .entry))) (now (table .entry))) (each (edgeAt side (now (sizes .entry)) (now (row .entry))) from (length (now (sizes .entry)) - from)) tally (now (room .entry)) r (now (room .exit)) ⌝ }
+    ensures { λ r. ⌜ SentEdges (now (sizes .entry)) (now (table .entry)) (now (row .entry)) side from family tally (now (room .entry)) r (now (room .exit)) ⌝ }
 {
     let mut h = differs_before(sizes, row, from);
     let mut i = from;

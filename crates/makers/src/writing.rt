@@ -32,8 +32,8 @@ fn measured(sizes: &[u8], family: usize, table: &[u8]) -> Tally
     }
 }
 
-// The length and the number of rules of the book, where the room is too short for it. Where the room is as long as the
-// general book, of whose rules all others are parts, that length is enough to know, and nothing is reduced for it.
+// The number of rules of the book and its length. Where the space is enough for the general book, whose rules are the longest,
+// its length instead: no rule is reduced to know that the book fits.
 fn needed(sizes: &[u8], family: usize, table: &[u8], space: usize) -> Tally
     requires { ⌜ Given (now sizes) (now table) (length (now table) / length (now sizes)) ⌝ }
     ensures { λ r. ⌜ Needed (now (sizes .entry)) family (rowsOf (length (now (sizes .entry))) (now (table .entry))) space r ⌝ }

@@ -47,7 +47,7 @@ returns c =
     let at-byte = at-push .before .before in
     let start = at-byte .before .before .before .before .before .before .before in
     apart-sent _ _ _ _ _ (start .pre .0) _ (at-byte .before .differs-before .ensures) _ (at-byte .byte .ensures) _ (at-push .push .ensures)
-    _ (at-push2 .push2 .ensures) _ _ _ _ _ _ _ (c .before .before .before .before .apart .ensures) (c .before .before .slot .ensures)
+    _ (at-push2 .push2 .ensures) _ _ _ _ _ _ (c .before .before .before .before .apart .ensures) (c .before .before .slot .ensures)
 
 pub between-spec : {M : Type 1} → statement M
 between-spec =

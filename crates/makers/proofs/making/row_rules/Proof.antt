@@ -21,7 +21,7 @@ row-requires c κs = search needs
 edges-requires : tie.Need-edges-requires
 edges-requires c κs =
     let start = c .before .before .before .before .before .before .before in (
-      given-sides _ _ _ (start .pre .0) _ _ _ _ _ (start .pre .1) (c .before .row .ensures) (c .before .before .before .fork .ensures) (omega arith),
+      given-sides _ _ _ (start .pre .0) _ _ _ _ _ (omega arith) (c .before .row .ensures) (c .before .before .before .fork .ensures) (omega arith),
       search needs,
     )
 
@@ -30,7 +30,7 @@ edges-requires-2 c κs =
     let at-edges = c .before .before .before in
     let at-row = at-edges .before .before in
     let start = at-row .before .before .before .before .before .before in (
-      given-sides _ _ _ (start .pre .0) _ _ _ _ _ (start .pre .1) (at-row .row .ensures) (at-row .before .fork2 .ensures) (omega arith),
+      given-sides _ _ _ (start .pre .0) _ _ _ _ _ (omega arith) (at-row .row .ensures) (at-row .before .fork2 .ensures) (omega arith),
       sent-countable _ _ _ _ _ _ _ _ _ _ (at-edges .edges .ensures) (start .pre .2) (omega arith),
     )
 
