@@ -2,7 +2,7 @@
 use Prim.Native.Nat.{ℕ, zero, suc, _/_, _%_}
 use mathlib.Core.Path.{_≡_, refl, sym, ap, _∙_}
 use mathlib.Core.Logic.{_≢_}
-use mathlib.Core.Bool.{Bool, true, false, cond, not}
+use mathlib.Core.Bool.{Bool, true, false, cond, not, _||_}
 use mathlib.Core.List.{List, [], _∷_, _++_}
 use mathlib.Core.Option.{Option, none, some}
 use lib.Dec.{leb, ltb, eqb}
@@ -28,7 +28,12 @@ use Rattle.books.specs.Faults as faults
 use Rattle.books.specs.Format.{readOf}
 use Rattle.books.specs.First.{firstUnmet, firstOver}
 use Rattle.books.specs.Tested.{judgeOf, judgeRead, testedOf}
-use Rattle.rulebook.specs.Told.{Told, Refusal, flawTold, checkedTold, madeTold, testedTold, firstOf, firstOf-append}
+use Rattle.meaning.specs.Listing.{dead, page}
+use Rattle.listing.specs.declared.cursor.Cursor.{Cursor}
+use Rattle.listing.specs.declared.paging.Paged.{Paged}
+use Rattle.listing.specs.Cursors.{prefixOf, cursorOk}
+use Rattle.listing.specs.Pages.{P, pageIn, pageBy, listedIn, pageOf}
+use Rattle.rulebook.specs.Told.{Told, Refusal, flawTold, checkedTold, madeTold, testedTold, outcomeTold, firstOf, firstOf-append}
 
 -- ---- check: 1 to 5
 
@@ -191,3 +196,51 @@ test-told b x = go (readOf b)
         | isnt f ↦ rw f (elim (case (ltb (firstUnmet (rulesIn b) x) (length (rulesIn b)))) [ is g ↦ rw g | isnt g ↦ rw g ])
       ])
     ])
+
+-- ---- page: book faults, 18, 20, 19
+
+-- 18 the cursor, 20 room for a row, 19 the budget
+abbrev pub pageRefusals : Cursor → ℕ → List ℕ → ℕ → ℕ → List Refusal
+pageRefusals c budget room n l =
+    (18, not (cursorOk (alike n l) c), [])
+    ∷ (20, ltb (length room) l, [])
+    ∷ (19, eqb budget 0 || ltb 65535 budget, [])
+    ∷ []
+
+-- the number of rows, of steps, and 1 if finished, of the page that document 01 defines
+abbrev pub pageTold : List ℕ → Cursor → ℕ → List ℕ → ℕ → ℕ → Told
+pageTold b c budget room n l =
+    let g = page (alike n l) (dead (rulesIn b)) (length room / l) budget (prefixOf c) in
+    (0, length (g .rows) ∷ g .steps ∷ cond (g .finished) 1 0 ∷ [])
+
+module _ (b : List ℕ) (c : Cursor) (budget : ℕ) (room : List ℕ) where
+  pub page-told : outcomeTold (pageOf b c budget room .0 .outcome)
+      ≡ firstOf (faultFirst (readOf b) ++ ifAccepted (readOf b) (pageRefusals c budget room) []) (ifAccepted (readOf b) (pageTold b c budget room) (0, []))
+  unfolding pageOf pageBy pageIn listedIn firstOf
+  page-told = go (readOf b)
+    where
+      go : (r : Reading) → outcomeTold (pageBy b r c budget room .0 .outcome)
+          ≡ firstOf (faultFirst r ++ ifAccepted r (pageRefusals c budget room) []) (ifAccepted r (pageTold b c budget room) (0, []))
+      go (Faulty f) = refl
+      go (Book n l family rules) = rw (alike-length n l) (elim (case (cursorOk (alike n l) c)) [
+        | isnt e ↦ rw e
+        | is e ↦ rw e (elim (case (ltb (length room) l)) [
+          | is f ↦ rw f
+          | isnt f ↦ rw f (elim (case (eqb budget 0 || ltb 65535 budget)) [ is g ↦ rw g | isnt g ↦ rw g ])
+        ])
+      ])
+
+  -- a refusal gives the given cursor back and leaves the room as it was
+  pub page-unchanged : outcomeTold (pageOf b c budget room .0 .outcome) .0 ≢ 0 → (pageOf b c budget room .0 .cursor ≡ c) × (pageOf b c budget room .1 ≡ room)
+  unfolding pageOf pageBy pageIn listedIn
+  page-unchanged = go (readOf b)
+    where
+      go : (r : Reading) → outcomeTold (pageBy b r c budget room .0 .outcome) .0 ≢ 0 → (pageBy b r c budget room .0 .cursor ≡ c) × (pageBy b r c budget room .1 ≡ room)
+      go (Faulty f) = λ h. (refl, refl)
+      go (Book n l family rules) = elim (case (cursorOk (alike n l) c)) [
+        | isnt e ↦ rw e (λ h. (refl, refl))
+        | is e ↦ rw e (elim (case (ltb (length room) (length (alike n l)))) [
+          | is f ↦ rw f (λ h. (refl, refl))
+          | isnt f ↦ rw f (elim (case (eqb budget 0 || ltb 65535 budget)) [ is g ↦ rw g (λ h. (refl, refl)) | isnt g ↦ rw g (λ h. absurd (h refl)) ])
+        ])
+      ]

@@ -13,6 +13,9 @@ use Rattle.books.specs.declared.Tested.{Tested}
 use Rattle.books.specs.Format.{readOf}
 use Rattle.books.specs.Tested.{testedOf}
 use Rattle.books.specs.Part.{IsPart}
+use Rattle.listing.specs.declared.cursor.Cursor.{Cursor}
+use Rattle.listing.specs.Cursors.{downOf, alongOf, upOf}
+use Rattle.listing.specs.Pages.{P, pageOf}
 
 -- a contract that is an equation allows one outcome
 alone : {A : Type 0} (a r s : A) → r ≡ a → s ≡ a → r ≡ s
@@ -36,3 +39,16 @@ pub rule-determined : (lent r s : RefT (List ℕ)) (p : ℕ) (bytes : List ℕ) 
     → (now r ≡ now s) × (r .ptr .0 ≡ s .ptr .0) × (r .ptr .1 ≡ s .ptr .1)
 rule-determined lent r s p bytes a b =
     (alone bytes _ _ (a .bytes-are) (b .bytes-are), alone (lent .ptr .0) _ _ (a .block) (b .block), alone _ _ _ (a .offset) (b .offset))
+
+pub down-determined : (n l : ℕ) (c r s : Cursor) → r ≡ downOf n l c → s ≡ downOf n l c → r ≡ s
+down-determined n l c = alone (downOf n l c)
+
+pub along-determined : (n l : ℕ) (c r s : Cursor) → r ≡ alongOf n l c → s ≡ alongOf n l c → r ≡ s
+along-determined n l c = alone (alongOf n l c)
+
+pub up-determined : (n l : ℕ) (c r s : Cursor) → r ≡ upOf n l c → s ≡ upOf n l c → r ≡ s
+up-determined n l c = alone (upOf n l c)
+
+-- the answer, the cursor beside it, and the room at exit
+pub page-determined : (book : List ℕ) (c : Cursor) (budget : ℕ) (room : List ℕ) (r s : P) → r ≡ pageOf book c budget room → s ≡ pageOf book c budget room → r ≡ s
+page-determined book c budget room = alone (pageOf book c budget room)

@@ -15,6 +15,8 @@ use Rattle.books.specs.declared.Reading.the-variants.{Book, Faulty}
 use Rattle.books.specs.declared.Tested.{Tested}
 use Rattle.books.specs.declared.Tested.the-variants.{Permitted, NotMet, Faulty as Refused, Length, Value}
 use Rattle.books.specs.Faults as faults
+use Rattle.listing.specs.declared.paging.Outcome.{Outcome}
+use Rattle.listing.specs.declared.paging.Outcome.the-variants.{Listed, BadCursor, NoRoom, BadBudget, Faulty as Unread}
 
 abbrev pub Told : Type 0
 Told = ℕ × List ℕ
@@ -46,6 +48,14 @@ testedTold (NotMet k) = (0, 0 ∷ k ∷ [])
 testedTold (Refused f) = faultTold f
 testedTold Length = (16, [])
 testedTold (Value p) = (17, p ∷ [])
+
+-- the number of rows, of steps, and 1 if finished
+abbrev pub outcomeTold : Outcome → Told
+outcomeTold (Listed rows steps finished) = (0, rows ∷ steps ∷ cond finished 1 0 ∷ [])
+outcomeTold (Unread f) = faultTold f
+outcomeTold BadCursor = (18, [])
+outcomeTold BadBudget = (19, [])
+outcomeTold NoRoom = (20, [])
 
 -- ---- refusals in order
 

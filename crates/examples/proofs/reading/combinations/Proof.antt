@@ -1,0 +1,46 @@
+-- i rises to 2,000.
+use Prim.Native.Nat.{_-_, _≤_}
+use borrow.Author.Needs.{needs}
+use Rattle.examples.proofs.reading.combinations.Statement.{statement}
+use Rattle.examples.proofs.reading.combinations.Tie as tie
+
+abbrev Inv-loop : tie.InvT-loop
+Inv-loop run₀ i₀ run i = i ≤ 2000
+
+abbrev μ-loop : tie.MeasureT-loop
+μ-loop run₀ i₀ run i = 2000 - i
+
+seeded-requires : tie.Need-seeded-requires Inv-loop μ-loop
+seeded-requires c κs = search needs
+
+loop-holds : tie.Need-loop-holds Inv-loop μ-loop
+loop-holds c = search needs
+
+combinations-one-requires : tie.Need-combinations-one-requires Inv-loop μ-loop
+combinations-one-requires c κs = search needs
+
+add-i : tie.Need-add-i Inv-loop μ-loop
+add-i c = search needs
+
+loop-less : tie.Need-loop-less Inv-loop μ-loop
+loop-less c = search needs
+
+loop-again : tie.Need-loop-again Inv-loop μ-loop
+loop-again c = search needs
+
+returns : tie.Need-returns Inv-loop μ-loop
+returns c = search needs
+
+pub combinations-spec : {M : Type 1} → statement M
+combinations-spec =
+    tie.close
+    (tie.spec
+    Inv-loop
+    μ-loop
+    seeded-requires
+    loop-holds
+    combinations-one-requires
+    add-i
+    loop-less
+    loop-again
+    returns)
