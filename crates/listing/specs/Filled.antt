@@ -17,7 +17,7 @@ use Rattle.listing.specs.declared.cursor.Cursor.{Cursor}
 use Rattle.listing.specs.declared.walk.Walk.{Walk}
 use Rattle.listing.specs.Cursors.{prefixOf, cursorOf}
 use Rattle.listing.specs.Prefixes.{Plain, prefix-cursor, cursor-len}
-use Rattle.listing.specs.Steps.{S, moveOf, visitOf, runs, runs-nil, runs-cons, runs-shut, shut-rows, shut-steps, open-both}
+use Rattle.listing.specs.Steps.{S, walkOf, moveOf, visitOf, runs, runs-nil, runs-cons, runs-shut, shut-rows, shut-steps, open-both}
 
 -- rows one after another, as they stand in the room
 abbrev pub flat : List Row → List ℕ
@@ -53,8 +53,8 @@ module _ (ns : Sizes) (d : Row → Bool) where
   abbrev written : Bool → Row → Row → S → S
   written b x y s =
       cond b
-      (record { last = cursorOf x; dead = d x; rows = s .0 .rows + 1; steps = s .0 .steps + 1 }, putAt (s .1) (s .0 .rows * length ns) y)
-      (record { last = cursorOf x; dead = d x; rows = s .0 .rows; steps = s .0 .steps + 1 }, s .1)
+      (walkOf (cursorOf x) (d x) (s .0 .rows + 1) (s .0 .steps + 1), putAt (s .1) (s .0 .rows * length ns) y)
+      (walkOf (cursorOf x) (d x) (s .0 .rows) (s .0 .steps + 1), s .1)
 
   abbrev moved : Bool → Row → S → S
   moved b x s = written b x x s

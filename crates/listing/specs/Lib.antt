@@ -20,3 +20,5 @@ pub mod Filled
 pub mod Ending
 pub mod Pages
 pub mod Paging
+pub mod Answers
+pub mod Promise

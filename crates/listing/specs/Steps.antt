@@ -20,12 +20,15 @@ use Rattle.listing.specs.Prefixes.{Plain}
 abbrev pub S : Type 0
 S = Walk × List ℕ
 
+abbrev pub walkOf : Cursor → Bool → ℕ → ℕ → Walk
+walkOf q d rows steps = record { last = q; dead = d; rows = rows; steps = steps }
+
 -- a visit of q, dead or not: one step; a live one of length l is written as a row
 abbrev pub moveOf : ℕ → Bool → Cursor → S → S
 moveOf l d q s =
     cond (not d && eqb (q .len) l)
-    (record { last = q; dead = d; rows = s .0 .rows + 1; steps = s .0 .steps + 1 }, putAt (s .1) (s .0 .rows * l) (prefixOf q))
-    (record { last = q; dead = d; rows = s .0 .rows; steps = s .0 .steps + 1 }, s .1)
+    (walkOf q d (s .0 .rows + 1) (s .0 .steps + 1), putAt (s .1) (s .0 .rows * l) (prefixOf q))
+    (walkOf q d (s .0 .rows) (s .0 .steps + 1), s .1)
 
 -- how many levels are gone into below a prefix that is dead or not
 abbrev pub inwardOf : Bool → ℕ → ℕ
@@ -92,16 +95,16 @@ fits-row room w q l fit budget f =
     omega (arith, f .cells, mul-le-mul-right l k)
 
 -- its three ways out
-module _ (l : ℕ) (d : Bool) (q : Cursor) (w : Walk) (o : List ℕ) where
-  pub move-dead : d ≡ true → _≡_ {A = S} (record { last = q; dead = true; rows = w .rows; steps = w .steps + 1 }, o) (moveOf l d q (w, o))
-  move-dead e = rw e
+module _ (l : ℕ) (d : Bool) (q : Cursor) (w : Walk) (o : List ℕ) (r : Walk) where
+  pub move-dead : d ≡ true → r ≡ walkOf q true (w .rows) (w .steps + 1) → _≡_ {A = S} (r, o) (moveOf l d q (w, o))
+  move-dead e f = rw (e, f)
 
-  pub move-row : (o′ : List ℕ) → d ≡ false → q .len ≡ l → o′ ≡ putAt o (w .rows * l) (prefixOf q)
-      → _≡_ {A = S} (record { last = q; dead = false; rows = w .rows + 1; steps = w .steps + 1 }, o′) (moveOf l d q (w, o))
-  move-row o′ e h k = rw (e, k, eq-eqb (q .len) l h)
+  pub move-row : d ≡ false → q .len ≡ l → (o′ : List ℕ) → o′ ≡ putAt o (w .rows * l) (prefixOf q) → r ≡ walkOf q false (w .rows + 1) (w .steps + 1)
+      → _≡_ {A = S} (r, o′) (moveOf l d q (w, o))
+  move-row e h o′ k f = rw (e, k, eq-eqb (q .len) l h, f)
 
-  pub move-short : d ≡ false → (q .len ≡ l → ⊥) → _≡_ {A = S} (record { last = q; dead = false; rows = w .rows; steps = w .steps + 1 }, o) (moveOf l d q (w, o))
-  move-short e h = rw (e, ne-eqb (q .len) l h)
+  pub move-short : d ≡ false → (q .len ≡ l → ⊥) → r ≡ walkOf q false (w .rows) (w .steps + 1) → _≡_ {A = S} (r, o) (moveOf l d q (w, o))
+  move-short e h f = rw (e, ne-eqb (q .len) l h, f)
 
 -- ---- what the walk below a prefix asks
 

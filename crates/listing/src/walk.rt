@@ -16,7 +16,7 @@ ghost use Rattle.listing.specs.Cursors.{prefixOf};
 ghost use Rattle.listing.specs.Prefixes.{Plain, pushOf};
 ghost use Rattle.listing.specs.Standing.{AllStand};
 ghost use Rattle.listing.specs.Course.{part, fromOf, pastOf};
-ghost use Rattle.listing.specs.Steps.{S, moveOf, inwardOf, runs, Fits, Ready};
+ghost use Rattle.listing.specs.Steps.{S, walkOf, moveOf, inwardOf, runs, Fits, Ready};
 ghost use Rattle.listing.specs.Resuming.{ScansIf, WindowIf, Along};
 ghost use Rattle.listing.specs.Starting.{Resumes};
 ghost use Rattle.listing.specs.Windows.{Window};
@@ -56,6 +56,18 @@ fn put_row(room: &mut [u8], at: usize, q: Cursor, l: usize)
     }
 }
 
+// What has been done once the prefix q is visited.
+fn seen(q: Cursor, dead: bool, rows: usize, steps: usize) -> Walk
+    ensures { λ r. ⌜ r ≡ walkOf q dead rows steps ⌝ }
+{
+    Walk {
+        last: q,
+        dead,
+        rows,
+        steps,
+    }
+}
+
 // One visit, of a prefix q that is dead or not: one step, and a row if it is live and of length l.
 fn visit(
     room: &mut [u8],
@@ -73,28 +85,13 @@ fn visit(
     let steps = w.steps;
     let len = q.len;
     if dead {
-        return Walk {
-            last: q,
-            dead: true,
-            rows,
-            steps: steps + 1,
-        };
+        return seen(q, true, rows, steps + 1);
     }
     if len == l {
         put_row(room, rows * l, q, l);
-        return Walk {
-            last: q,
-            dead: false,
-            rows: rows + 1,
-            steps: steps + 1,
-        };
+        return seen(q, false, rows + 1, steps + 1);
     }
-    Walk {
-        last: q,
-        dead: false,
-        rows,
-        steps: steps + 1,
-    }
+    seen(q, false, rows, steps + 1)
 }
 
 // How many levels are gone into below a prefix: none if it is dead.
@@ -159,10 +156,10 @@ fn below(
         let next = push(cur, v);
         let i = wide(v);
         let dead = allowed[i] == 0;
-        let seen = visit(room, walk, next, dead, sizes.len(), fit, budget);
+        let done = visit(room, walk, next, dead, sizes.len(), fit, budget);
         let deep = inward(dead, levels);
         let more = scan_if(book, s.at, s.rules, next, deep);
-        walk = below(book, sizes, room, seen, next, more, 0, deep, fit, budget);
+        walk = below(book, sizes, room, done, next, more, 0, deep, fit, budget);
         v += 1;
     }
     walk
