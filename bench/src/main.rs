@@ -1,0 +1,102 @@
+//! The library measured beside the second program and, for listings, Gecode.
+//!
+//! Every line is one race on one input, and what the contenders answer must agree.
+
+mod chance;
+mod inputs;
+mod listing;
+mod report;
+
+use std::hint::black_box;
+
+use rulebook::{make, make_in, Book, Verdict};
+
+use crate::inputs::Table;
+use crate::report::{conditions, heading, line, race, Best, Contender};
+
+/// Bytes of a page's room.
+const PAGE: usize = 65_536;
+
+fn main() {
+    conditions();
+    let tables = inputs::tables();
+    let books: Vec<Book> = tables.iter().map(book_of).collect();
+    let both = || tables.iter().zip(&books);
+    heading("making", &["second"]);
+    both().for_each(|(table, book)| making(table, book));
+    heading("reading", &["second"]);
+    both().for_each(|(table, book)| reading(table, book));
+    heading("testing a row, which meets every rule", &["second"]);
+    both().for_each(|(table, book)| testing(table, book));
+    heading("listing whole", &["second", "Gecode", "its search"]);
+    both().for_each(|(table, book)| listing(table.name, book));
+    let typed = Book::read(inputs::typed()).expect("a sound book");
+    listing("typed, 6 rules, n 10 l 6", &typed);
+}
+
+fn book_of(table: &Table) -> Book {
+    make(table.n, table.l, table.family, &table.bytes).expect("a closed table")
+}
+
+fn making(table: &Table, book: &Book) {
+    let (n, l, family) = (table.n, table.l, table.family);
+    let mut ours = vec![1; 1 << 20];
+    let mut theirs = ours.clone();
+    let [library, second] = race([
+        Contender::new(|| {
+            make_in(n, l, family, black_box(&table.bytes), &mut ours).map(|book| book.l())
+        }),
+        Contender::new(|| {
+            let (n, l, family) = (n as u64, l as u64, family.number() as u64);
+            second::make(n, l, family, black_box(&table.bytes), &mut theirs)
+        }),
+    ]);
+    assert!(ours == theirs && ours.starts_with(book.as_bytes()));
+    let (rows, rules) = (table.rows(), book.rules().len());
+    let input = format!("{}: {rows} rows, {rules} rules", table.name);
+    line(&input, library, &[second]);
+}
+
+fn reading(table: &Table, book: &Book) {
+    let bytes = book.as_bytes();
+    let [library, second] = race([
+        Contender::new(|| Book::read(black_box(bytes))),
+        Contender::new(|| second::read(black_box(bytes))),
+    ]);
+    let input = format!("{}: {} bytes", table.name, bytes.len());
+    line(&input, library, &[second]);
+}
+
+fn testing(table: &Table, book: &Book) {
+    let bytes = book.as_bytes();
+    let row = &table.bytes[table.rows() / 2 * table.l..][..table.l];
+    assert_eq!(book.test(row), Ok(Verdict::Permitted));
+    assert_eq!(second::test(bytes, row), Ok(second::Tested::Permitted));
+    let [library, second] = race([
+        Contender::new(|| book.test(black_box(row))),
+        Contender::new(|| second::test(bytes, black_box(row))),
+    ]);
+    line(table.name, library, &[second]);
+}
+
+fn listing(name: &str, book: &Book) {
+    let book = book.view();
+    let (mut ours, mut theirs) = (vec![1; PAGE], vec![1; PAGE]);
+    let due = listing::by_library(&book, &mut ours);
+    let mut search_time = f64::INFINITY;
+    let [library, second, gecode] = race([
+        Contender::new(|| assert_eq!(listing::by_library(&book, &mut ours), due)),
+        Contender::new(|| assert_eq!(listing::by_second(book.as_bytes(), &mut theirs), due)),
+        Contender::new(|| {
+            let by_gecode = listing::by_gecode(&book);
+            assert_eq!(by_gecode.listed(), due);
+            search_time = search_time.min(by_gecode.search);
+        }),
+    ]);
+    let search = Best {
+        time: search_time,
+        turns: gecode.turns,
+    };
+    let input = format!("{name}: {} rows", due.rows);
+    line(&input, library, &[second, gecode, search]);
+}
