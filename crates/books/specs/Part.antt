@@ -1,17 +1,20 @@
 -- A rule of a book by its number, as the part of the lent bytes that holds its record.
 use Prim.Native.Nat.{ℕ, zero, suc, _+_, _-_, _≤_, _<_}
 use native.Mathlib.Omega.{arith}
-use native.Mathlib.Nat.{sub-zero}
+use native.Mathlib.Nat.{sub-zero, add-sub-cancel-left}
 use mathlib.Core.Path.{_≡_, refl, sym, _∙_}
+use mathlib.Core.Logic.{inl, inr}
 use mathlib.Core.Bool.{cond}
 use mathlib.Core.List.{List, []}
 use denote.Ref.{RefT, ptr, now}
 use lib.Dec.{ltb}
-use lib.ListN.{length, getD, take, drop}
+use lib.ListN.{length, getD, take, drop, length-take, length-drop}
 use borrow.Author.Tests.{lt-ltb, le-ltb}
+use Rattle.meaning.specs.Tests.{lt-or-le}
 use Rattle.meaning.specs.Rows.{Sizes, alike}
 use Rattle.meaning.specs.Bytes.{encodeRule, ruleAt, endAt, rulesAt, placeAt, rulesIn}
 use Rattle.books.specs.declared.Fault.{Fault}
+use Rattle.books.specs.declared.part.RulePart.{RulePart}
 use Rattle.books.specs.declared.Reading.{Reading}
 use Rattle.books.specs.declared.Reading.the-variants.{Book, Faulty}
 use Rattle.books.specs.Format.{readOf}
@@ -33,6 +36,10 @@ partOf b number = cond (ltb number (countOf (readOf b))) (recordAt b (placeAt b 
 
 unfoldable pub partPlace : List ℕ → ℕ → ℕ
 partPlace b number = cond (ltb number (countOf (readOf b))) (placeAt b 7 number) (length b)
+
+-- its place and its length
+abbrev pub partWhere : List ℕ → ℕ → RulePart
+partWhere b number = record { place = partPlace b number; length = length (partOf b number) }
 
 -- r is the part of the lent bytes that begins at place p and has these bytes
 pub record IsPart (lent r : RefT (List ℕ)) (p : ℕ) (bytes : List ℕ) : Type 0 where
@@ -102,24 +109,52 @@ module _ (b : List ℕ) (k : ℕ) where
   unfolding placeAt
   walk-end p i w h = let e : k - i ≡ 0 = omega arith in record { is = w .whole ∙ rw e; inside = w .inside }
 
--- ---- the part: the ways out
+-- ---- where the part is: the ways out
+record-length : (b : List ℕ) (p : ℕ) → endAt b p ≤ length b → length (recordAt b p) ≡ endAt b p - p
+record-length b p h = simp (length-take, length-drop) (omega arith)
+
 module _ (b : List ℕ) (k c : ℕ) (n : c ≡ countOf (readOf b)) where
-  pub place-none : c ≤ k → partPlace b k ≡ length b
-  unfolding partPlace
-  place-none h = rw (← n, le-ltb k c h)
+  pub where-none : c ≤ k → _≡_ {A = RulePart} (record { place = length b; length = 0 }) (partWhere b k)
+  unfolding partOf partPlace
+  where-none h = rw (← n, le-ltb k c h)
 
-  pub part-none : c ≤ k → partOf b k ≡ []
-  unfolding partOf
-  part-none h = rw (← n, le-ltb k c h)
+  pub where-some : (p : ℕ) → Placed b k p → k < c → (e : ℕ) → e ≡ endAt b p → _≡_ {A = RulePart} (record { place = p; length = e - p }) (partWhere b k)
+  unfolding partOf partPlace
+  where-some p w h e o = rw (← n, lt-ltb k c h, w .is, record-length b p (w .inside), o)
 
-  module _ (p : ℕ) (w : Placed b k p) where
-    pub place-some : k < c → partPlace b k ≡ p
-    unfolding partPlace
-    place-some h = rw (← n, lt-ltb k c h) (w .is)
+-- ---- the part is those bytes of the book
+ahead-at : (b : List ℕ) (k p : ℕ) → Ahead b p k → Ahead b (placeAt b p k) 0
+unfolding placeAt
+ahead-at b zero p a = a
+ahead-at b (suc k) p a = ahead-at b k (endAt b p) (ahead-next b p (suc k) k refl a)
 
-    pub part-some : k < c → (e : ℕ) → e ≡ endAt b p → partOf b k ≡ take (e - p) (drop p b)
-    unfolding partOf
-    part-some h e o = rw (← n, lt-ltb k c h, w .is, o)
+module _ (b : List ℕ) (k : ℕ) where
+  record-inside : k < countOf (readOf b) → endAt b (placeAt b 7 k) ≤ length b
+  record-inside h = ahead-inside b (placeAt b 7 k) 0 (ahead-at b k 7 (ahead-start b k h))
+
+  whole-inside : partPlace b k + length (partOf b k) ≤ length b
+  unfolding partOf partPlace
+  whole-inside = elim (lt-or-le k (countOf (readOf b))) [
+    | inl h ↦ let i = record-inside h in rw (lt-ltb k (countOf (readOf b)) h, record-length b (placeAt b 7 k) i) (omega arith)
+    | inr h ↦ rw (le-ltb k (countOf (readOf b)) h) (omega arith)
+  ]
+
+  whole-bytes : take (length (partOf b k)) (drop (partPlace b k) b) ≡ partOf b k
+  unfolding partOf partPlace
+  whole-bytes = elim (lt-or-le k (countOf (readOf b))) [
+    | inl h ↦ rw (lt-ltb k (countOf (readOf b)) h, record-length b (placeAt b 7 k) (record-inside h))
+    | inr h ↦ rw (le-ltb k (countOf (readOf b)) h)
+  ]
+
+  module _ (p : RulePart) (e : p ≡ partWhere b k) where
+    pub part-inside : p .place + p .length ≤ length b
+    part-inside = rw e whole-inside
+
+    pub part-place : p .place ≡ partPlace b k
+    part-place = rw e
+
+    pub part-bytes : take (p .place + p .length - p .place) (drop (p .place) b) ≡ partOf b k
+    part-bytes = rw (e, add-sub-cancel-left (partPlace b k) (length (partOf b k))) whole-bytes
 
 -- ---- what the part is: the encoding of the rule
 
@@ -128,11 +163,6 @@ unfolding rulesAt placeAt
 rule-nth b p k zero h = absurd (omega arith)
 rule-nth b p zero (suc m) h = refl
 rule-nth b p (suc k) (suc m) h = rule-nth b (endAt b p) k m (omega arith)
-
-ahead-at : (b : List ℕ) (k p : ℕ) → Ahead b p k → Ahead b (placeAt b p k) 0
-unfolding placeAt
-ahead-at b zero p a = a
-ahead-at b (suc k) p a = ahead-at b k (endAt b p) (ahead-next b p (suc k) k refl a)
 
 pub part-is : (b : List ℕ) (n l family c k : ℕ) → readOf b ≡ Book n l family c → k < c → partOf b k ≡ encodeRule (getD (rulesIn b) k [])
 unfolding partOf

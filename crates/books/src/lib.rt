@@ -8,7 +8,9 @@ mod rules;
 mod tester;
 mod walk;
 
+pub use part::RulePart;
 pub use part::rule;
+pub use part::rule_part;
 pub use reader::read;
 pub use records::put_end;
 pub use records::put_head;

@@ -1,19 +1,18 @@
--- `books::part::rule` meets its contract: by cases on the number and the count (place-some, part-some; place-none, part-none).
-use mathlib.Core.Path.{refl, sym}
-use lib.Seq.{drop-length, take-nil}
-use Rattle.books.specs.Part.{place-some, part-some, place-none, part-none}
+-- `books::part::rule` meets its contract: the part is inside the book (part-inside), and these are its bytes (part-bytes).
+use native.Mathlib.Omega.{arith}
+use mathlib.Core.Path.{refl}
+use Rattle.books.specs.Part.{part-inside, part-place, part-bytes}
 use borrow.Author.Needs.{needs}
 use Rattle.books.proofs.part.rule.Statement.{statement}
 use Rattle.books.proofs.part.rule.Tie as tie
 
-count-requires : tie.Need-count-requires
-count-requires c κs = search needs
+rule-part-requires : tie.Need-rule-part-requires
+rule-part-requires c κs = search needs
 
-place-requires : tie.Need-place-requires
-place-requires c κs = search needs
-
-rule-end-requires : tie.Need-rule-end-requires
-rule-end-requires c κs = search needs
+add-end : tie.Need-add-end
+add-end c =
+    let p = c .before .rule-part in
+    omega (arith, part-inside (c .before .before .before .args .book .now) (c .before .before .before .args .number) (p .result) (p .ensures))
 
 sub-result : tie.Need-sub-result
 sub-result c = search needs
@@ -22,53 +21,21 @@ part-result-start : tie.Need-part-result-start
 part-result-start c = search needs
 
 part-result-end : tie.Need-part-result-end
-part-result-end c = search needs
+part-result-end c =
+    let p = c .before .rule-part in
+    search (needs, part-inside (c .before .before .before .args .book .now) (c .before .before .before .args .number) (p .result) (p .ensures))
 
 returns : tie.Need-returns
 returns c =
-    let a = c .before .before .before .before .before .before .args in
-    let n = c .before .before .before .before .count in
-    let p = c .before .before .place in
-    let t = c .before .before .before .if1 .taken in
-    let e = c .before .rule-end in
-    record {
-      block = refl;
-      offset = rw (place-some (a .book .now) (a .number) (n .result) (n .ensures) (p .result) (p .ensures) t);
-      bytes-are = sym (part-some (a .book .now) (a .number) (n .result) (n .ensures) (p .result) (p .ensures) t (e .result) (e .ensures));
-    }
-
-sub-result-2 : tie.Need-sub-result-2
-sub-result-2 c = search needs
-
-part-result-start-2 : tie.Need-part-result-start-2
-part-result-start-2 c = search needs
-
-part-result-end-2 : tie.Need-part-result-end-2
-part-result-end-2 c = search needs
-
-returns-2 : tie.Need-returns-2
-returns-2 c =
     let a = c .before .before .before .before .args in
-    let n = c .before .before .count in
-    let t = c .before .if1 .left in
+    let p = c .before .before .rule-part in
     record {
       block = refl;
-      offset = rw (place-none (a .book .now) (a .number) (n .result) (n .ensures) t);
-      bytes-are = simp (drop-length, take-nil) (sym (part-none (a .book .now) (a .number) (n .result) (n .ensures) t));
+      offset = rw (part-place (a .book .now) (a .number) (p .result) (p .ensures));
+      bytes-are = part-bytes (a .book .now) (a .number) (p .result) (p .ensures);
     }
 
 pub rule-spec : {M : Type 1} → statement M
 rule-spec =
     tie.close
-    (tie.spec
-    count-requires
-    place-requires
-    rule-end-requires
-    sub-result
-    part-result-start
-    part-result-end
-    returns
-    sub-result-2
-    part-result-start-2
-    part-result-end-2
-    returns-2)
+    (tie.spec rule-part-requires add-end sub-result part-result-start part-result-end returns)
