@@ -8,6 +8,7 @@ ghost use Rattle.listing.specs.CursorTests.{Cleaned, Tested};
 ghost use Rattle.listing.specs.Sizes.{Limited, inLimits};
 
 // A prefix: its length, and sixteen values of which those past the length are 0.
+#[repr(C)]
 pub struct Cursor {
     pub len: usize,
     pub values: [u8; 16],
