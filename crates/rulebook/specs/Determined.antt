@@ -10,15 +10,16 @@ use Rattle.makers.specs.declared.Made.{Made}
 use Rattle.makers.specs.Made.{madeOf}
 use Rattle.books.specs.declared.Reading.{Reading}
 use Rattle.books.specs.declared.Tested.{Tested}
+use Rattle.books.specs.declared.part.RulePart.{RulePart}
 use Rattle.books.specs.Format.{readOf}
 use Rattle.books.specs.Tested.{testedOf}
-use Rattle.books.specs.Part.{IsPart}
+use Rattle.books.specs.Part.{IsPart, partWhere}
 use Rattle.listing.specs.declared.cursor.Cursor.{Cursor}
 use Rattle.listing.specs.Cursors.{downOf, alongOf, upOf}
 use Rattle.listing.specs.Pages.{P, pageOf}
 
 -- a contract that is an equation allows one outcome
-alone : {A : Type 0} (a r s : A) → r ≡ a → s ≡ a → r ≡ s
+pub alone : {A : Type 0} (a r s : A) → r ≡ a → s ≡ a → r ≡ s
 alone a r s p q = p ∙ sym q
 
 pub check-determined : (n l : ℕ) (table : List ℕ) (r s : Checked) → r ≡ checkedOf n l table → s ≡ checkedOf n l table → r ≡ s
@@ -33,6 +34,9 @@ read-determined book = alone (readOf book)
 
 pub test-determined : (book : List ℕ) (x : Row) (r s : Tested) → r ≡ testedOf book x → s ≡ testedOf book x → r ≡ s
 test-determined book x = alone (testedOf book x)
+
+pub rule-part-determined : (book : List ℕ) (number : ℕ) (r s : RulePart) → r ≡ partWhere book number → s ≡ partWhere book number → r ≡ s
+rule-part-determined book number = alone (partWhere book number)
 
 -- a rule by its number: the bytes of the part, and where it stands in what was lent; only its ghost name is fresh
 pub rule-determined : (lent r s : RefT (List ℕ)) (p : ℕ) (bytes : List ℕ) → IsPart lent r p bytes → IsPart lent s p bytes

@@ -1,20 +1,31 @@
 // Answers as C gets them: document 01's number, and what the call or the refusal gives.
-use books::Fault;
-use books::Reading;
-use books::Tested;
-use makers::Made;
-use tables::Checked;
-use tables::Flaw;
+use rulebook::Checked;
+use rulebook::Cursor;
+use rulebook::Fault;
+use rulebook::Flaw;
+use rulebook::Made;
+use rulebook::Outcome;
+use rulebook::Paged;
+use rulebook::Reading;
+use rulebook::Tested;
 ghost use mathlib.Core.Path.{_≡_};
+ghost use mathlib.Core.Bool.{cond};
 ghost use mathlib.Core.List.{[], _∷_};
-ghost use Rattle.rulebook.specs.Told.{checkedTold, faultTold, flawTold, madeTold, readingTold, testedTold};
-ghost use Rattle.rulebook_c.specs.Answers.{answerOf};
+ghost use Rattle.rulebook.specs.Told.{checkedTold, faultTold, flawTold, madeTold, outcomeTold, readingTold, testedTold};
+ghost use Rattle.rulebook_c.specs.Answers.{answerOf, pagedOf};
 
 // 0 for success, else the refusal; and four values, zeros behind those that are given.
 #[repr(C)]
 pub struct Answer {
     pub number: usize,
     pub gives: [usize; 4],
+}
+
+// A page's answer, and where the next page goes on.
+#[repr(C)]
+pub struct PageAnswer {
+    pub answer: Answer,
+    pub cursor: Cursor,
 }
 
 // A number, and what it gives, zeros behind it.
@@ -55,6 +66,7 @@ fn fault(f: Fault) -> Answer
     }
 }
 
+// The number of rows of a sound table, or what is wrong with it.
 pub fn checked(c: Checked) -> Answer
     ensures { λ r. ⌜ r ≡ answerOf (checkedTold c) ⌝ }
 {
@@ -64,6 +76,7 @@ pub fn checked(c: Checked) -> Answer
     }
 }
 
+// The book's length and its number of rules, or why it is not made.
 pub fn made(m: Made) -> Answer
     ensures { λ r. ⌜ r ≡ answerOf (madeTold m) ⌝ }
 {
@@ -77,6 +90,7 @@ pub fn made(m: Made) -> Answer
     }
 }
 
+// The book's n, l, family and number of rules, or what is wrong with it.
 pub fn reading(r: Reading) -> Answer
     ensures { λ a. ⌜ a ≡ answerOf (readingTold r) ⌝ }
 {
@@ -91,6 +105,7 @@ pub fn reading(r: Reading) -> Answer
     }
 }
 
+// 1 if the combination is permitted, else 0 and the number of the first rule not met; or why it is not tested.
 pub fn tested(t: Tested) -> Answer
     ensures { λ r. ⌜ r ≡ answerOf (testedTold t) ⌝ }
 {
@@ -100,5 +115,41 @@ pub fn tested(t: Tested) -> Answer
         Tested::Faulty(f) => fault(f),
         Tested::Length => tell(16, 0, 0, 0, 0),
         Tested::Value(p) => tell(17, p, 0, 0, 0),
+    }
+}
+
+// 1 for yes and 0 for no.
+fn bit(yes: bool) -> usize
+    ensures { λ r. ⌜ r ≡ cond yes 1 0 ⌝ }
+{
+    if yes { 1 } else { 0 }
+}
+
+// A page's rows, its steps, and 1 if it is finished, else 0; or why there is none.
+fn ended(o: Outcome) -> Answer
+    ensures { λ r. ⌜ r ≡ answerOf (outcomeTold o) ⌝ }
+{
+    match o {
+        Outcome::Listed {
+            rows,
+            steps,
+            finished,
+        } => tell(0, rows, steps, bit(finished), 0),
+        Outcome::Faulty(f) => fault(f),
+        Outcome::BadCursor => tell(18, 0, 0, 0, 0),
+        Outcome::BadBudget => tell(19, 0, 0, 0, 0),
+        Outcome::NoRoom => tell(20, 0, 0, 0, 0),
+    }
+}
+
+// How the page ended, beside its cursor.
+pub fn paged(p: Paged) -> PageAnswer
+    ensures { λ r. ⌜ r ≡ pagedOf p ⌝ }
+{
+    let outcome = p.outcome;
+    let cursor = p.cursor;
+    PageAnswer {
+        answer: ended(outcome),
+        cursor,
     }
 }

@@ -2,20 +2,13 @@
 use borrow.Author.Needs.{needs}
 use Rattle.rulebook_c.proofs.rulebook_test.Statement.{statement}
 use Rattle.rulebook_c.proofs.rulebook_test.Tie as tie
-use Rattle.rulebook_c.proofs.rulebook_test.Reads as reads
-use Rattle.rulebook_c.proofs.rulebook_test.Lts as lts
-use Rattle.books.proofs.test.Reads as test-reads
-use Rattle.rulebook_c.proofs.answers.tested.Reads as tested-reads
 
--- src/lib.rt:52:12
 test-requires : tie.Need-test-requires
 test-requires c κs = search needs
 
--- src/lib.rt:52:5
 tested-requires : tie.Need-tested-requires
 tested-requires c κs = search needs
 
--- src/lib.rt:48:1
 returns : tie.Need-returns
 returns c = rw (c .before .test .ensures) at (c .tested .ensures)
 

@@ -4,32 +4,22 @@ use Rattle.rulebook_c.specs.Answers.{told}
 use borrow.Author.Needs.{needs}
 use Rattle.rulebook_c.proofs.answers.checked.Statement.{statement}
 use Rattle.rulebook_c.proofs.answers.checked.Tie as tie
-use Rattle.rulebook_c.proofs.answers.checked.Reads as reads
-use Rattle.rulebook_c.proofs.answers.checked.Lts as lts
-use Rattle.rulebook_c.proofs.answers.flaw.Reads as flaw-reads
-use Rattle.rulebook_c.proofs.answers.tell.Reads as tell-reads
 
--- src/answers.rt:62:24
 enum-known-c : tie.Need-enum-known-c
 enum-known-c c = search needs
 
--- src/answers.rt:62:33
 tell-requires : tie.Need-tell-requires
 tell-requires c κs = search needs
 
--- src/answers.rt:63:25
 enum-known-c-2 : tie.Need-enum-known-c-2
 enum-known-c-2 c = search needs
 
--- src/answers.rt:63:31
 flaw-requires : tie.Need-flaw-requires
 flaw-requires c κs = search needs
 
--- src/answers.rt:58:1
 returns : tie.Need-returns
 returns c = search (told checkedTold)
 
--- src/answers.rt:58:1
 returns-2 : tie.Need-returns-2
 returns-2 c = search (told checkedTold)
 

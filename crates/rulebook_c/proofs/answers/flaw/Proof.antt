@@ -4,67 +4,49 @@ use Rattle.rulebook_c.specs.Answers.{told}
 use borrow.Author.Needs.{needs}
 use Rattle.rulebook_c.proofs.answers.flaw.Statement.{statement}
 use Rattle.rulebook_c.proofs.answers.flaw.Tie as tie
-use Rattle.rulebook_c.proofs.answers.flaw.Reads as reads
-use Rattle.rulebook_c.proofs.answers.flaw.Lts as lts
-use Rattle.rulebook_c.proofs.answers.tell.Reads as tell-reads
 
--- src/answers.rt:35:25
 enum-told : tie.Need-enum-told
 enum-told c = search needs
 
--- src/answers.rt:35:25
 tell-requires : tie.Need-tell-requires
 tell-requires c κs = search needs
 
--- src/answers.rt:36:25
 enum-told-2 : tie.Need-enum-told-2
 enum-told-2 c = search needs
 
--- src/answers.rt:36:25
 tell-requires-2 : tie.Need-tell-requires-2
 tell-requires-2 c κs = search needs
 
--- src/answers.rt:37:20
 enum-known-f : tie.Need-enum-known-f
 enum-known-f c = search needs
 
--- src/answers.rt:37:26
 tell-requires-3 : tie.Need-tell-requires-3
 tell-requires-3 c κs = search needs
 
--- src/answers.rt:38:21
 enum-known-f-2 : tie.Need-enum-known-f-2
 enum-known-f-2 c = search needs
 
--- src/answers.rt:38:27
 tell-requires-4 : tie.Need-tell-requires-4
 tell-requires-4 c κs = search needs
 
--- src/answers.rt:39:21
 enum-known-f-3 : tie.Need-enum-known-f-3
 enum-known-f-3 c = search needs
 
--- src/answers.rt:39:27
 tell-requires-5 : tie.Need-tell-requires-5
 tell-requires-5 c κs = search needs
 
--- src/answers.rt:31:1
 returns : tie.Need-returns
 returns c = search (told flawTold)
 
--- src/answers.rt:31:1
 returns-2 : tie.Need-returns-2
 returns-2 c = search (told flawTold)
 
--- src/answers.rt:31:1
 returns-3 : tie.Need-returns-3
 returns-3 c = search (told flawTold)
 
--- src/answers.rt:31:1
 returns-4 : tie.Need-returns-4
 returns-4 c = search (told flawTold)
 
--- src/answers.rt:31:1
 returns-5 : tie.Need-returns-5
 returns-5 c = search (told flawTold)
 

@@ -4,80 +4,58 @@ use Rattle.rulebook_c.specs.Answers.{told}
 use borrow.Author.Needs.{needs}
 use Rattle.rulebook_c.proofs.answers.made.Statement.{statement}
 use Rattle.rulebook_c.proofs.answers.made.Tie as tie
-use Rattle.rulebook_c.proofs.answers.made.Reads as reads
-use Rattle.rulebook_c.proofs.answers.made.Lts as lts
-use Rattle.rulebook_c.proofs.answers.flaw.Reads as flaw-reads
-use Rattle.rulebook_c.proofs.answers.tell.Reads as tell-reads
 
--- src/answers.rt:71:22
 enum-known-m : tie.Need-enum-known-m
 enum-known-m c = search needs
 
--- src/answers.rt:71:41
 tell-requires : tie.Need-tell-requires
 tell-requires c κs = search needs
 
--- src/answers.rt:72:22
 enum-known-m-2 : tie.Need-enum-known-m-2
 enum-known-m-2 c = search needs
 
--- src/answers.rt:72:28
 flaw-requires : tie.Need-flaw-requires
 flaw-requires c κs = search needs
 
--- src/answers.rt:73:25
 enum-told : tie.Need-enum-told
 enum-told c = search needs
 
--- src/answers.rt:73:25
 tell-requires-2 : tie.Need-tell-requires-2
 tell-requires-2 c κs = search needs
 
--- src/answers.rt:74:20
 enum-known-m-3 : tie.Need-enum-known-m-3
 enum-known-m-3 c = search needs
 
--- src/answers.rt:74:29
 tell-requires-3 : tie.Need-tell-requires-3
 tell-requires-3 c κs = search needs
 
--- src/answers.rt:75:22
 enum-known-m-4 : tie.Need-enum-known-m-4
 enum-known-m-4 c = search needs
 
--- src/answers.rt:75:34
 tell-requires-4 : tie.Need-tell-requires-4
 tell-requires-4 c κs = search needs
 
--- src/answers.rt:76:20
 enum-known-m-5 : tie.Need-enum-known-m-5
 enum-known-m-5 c = search needs
 
--- src/answers.rt:76:31
 tell-requires-5 : tie.Need-tell-requires-5
 tell-requires-5 c κs = search needs
 
--- src/answers.rt:67:1
 returns : tie.Need-returns
 returns c = search (told madeTold)
 
--- src/answers.rt:67:1
 returns-2 : tie.Need-returns-2
 returns-2 c = search (told madeTold)
 
--- src/answers.rt:67:1
 returns-3 : tie.Need-returns-3
 returns-3 c = search (told madeTold)
 
--- src/answers.rt:67:1
 returns-4 : tie.Need-returns-4
 returns-4 c = search (told madeTold)
 
--- src/answers.rt:67:1
 returns-5 : tie.Need-returns-5
 returns-5 c = search (told madeTold)
 
--- src/answers.rt:67:1
 returns-6 : tie.Need-returns-6
 returns-6 c = search (told madeTold)
 

@@ -4,68 +4,49 @@ use Rattle.rulebook_c.specs.Answers.{told}
 use borrow.Author.Needs.{needs}
 use Rattle.rulebook_c.proofs.answers.tested.Statement.{statement}
 use Rattle.rulebook_c.proofs.answers.tested.Tie as tie
-use Rattle.rulebook_c.proofs.answers.tested.Reads as reads
-use Rattle.rulebook_c.proofs.answers.tested.Lts as lts
-use Rattle.rulebook_c.proofs.answers.fault.Reads as fault-reads
-use Rattle.rulebook_c.proofs.answers.tell.Reads as tell-reads
 
--- src/answers.rt:98:30
 enum-told : tie.Need-enum-told
 enum-told c = search needs
 
--- src/answers.rt:98:30
 tell-requires : tie.Need-tell-requires
 tell-requires c κs = search needs
 
--- src/answers.rt:99:24
 enum-known-t : tie.Need-enum-known-t
 enum-known-t c = search needs
 
--- src/answers.rt:99:33
 tell-requires-2 : tie.Need-tell-requires-2
 tell-requires-2 c κs = search needs
 
--- src/answers.rt:100:24
 enum-known-t-2 : tie.Need-enum-known-t-2
 enum-known-t-2 c = search needs
 
--- src/answers.rt:100:30
 fault-requires : tie.Need-fault-requires
 fault-requires c κs = search needs
 
--- src/answers.rt:101:27
 enum-told-2 : tie.Need-enum-told-2
 enum-told-2 c = search needs
 
--- src/answers.rt:101:27
 tell-requires-3 : tie.Need-tell-requires-3
 tell-requires-3 c κs = search needs
 
--- src/answers.rt:102:23
 enum-known-t-3 : tie.Need-enum-known-t-3
 enum-known-t-3 c = search needs
 
--- src/answers.rt:102:29
 tell-requires-4 : tie.Need-tell-requires-4
 tell-requires-4 c κs = search needs
 
--- src/answers.rt:94:1
 returns : tie.Need-returns
 returns c = search (told testedTold)
 
--- src/answers.rt:94:1
 returns-2 : tie.Need-returns-2
 returns-2 c = search (told testedTold)
 
--- src/answers.rt:94:1
 returns-3 : tie.Need-returns-3
 returns-3 c = search (told testedTold)
 
--- src/answers.rt:94:1
 returns-4 : tie.Need-returns-4
 returns-4 c = search (told testedTold)
 
--- src/answers.rt:94:1
 returns-5 : tie.Need-returns-5
 returns-5 c = search (told testedTold)
 
