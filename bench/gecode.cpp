@@ -2,8 +2,8 @@
 //
 // The model: one integer variable for each setting; one 0/1 variable for each "setting at most d" that the book speaks of, tied to
 // its setting by reification ("at least d" is the negation of "at most d-1"); one clause for each rule. The search is Gecode's
-// depth-first engine with its default distances and one thread; other distances, and branching over all values of a setting at
-// once, were no faster.
+// depth-first engine with its default distances and one thread. Other distances, and branching over all values of a setting at
+// once, were tried: each gains on one book or another, at most a third, and none on all.
 #include <chrono>
 #include <cstddef>
 #include <cstdint>

@@ -20,8 +20,7 @@ use Rattle.meaning.specs.Listing.{dead, combinations, visits, shown, front, Pag
 use Rattle.meaning.specs.Visited.{begins-nil}
 use Rattle.meaning.specs.Dead.{AllDecided, good-decided}
 use Rattle.meaning.specs.Paged.{page-begins, page-moves}
-use Rattle.meaning.specs.Runs.{ended, run-whole, run-moves}
-use Rattle.meaning.specs.Runs.{Enough as EnoughRooms}
+use Rattle.meaning.specs.Runs.{ended, Enough as EnoughRooms, run-whole, run-moves}
 use Rattle.meaning.specs.Alike.{alike-length}
 use Rattle.books.specs.declared.Reading.the-variants.{Book}
 use Rattle.books.specs.Format.{readOf}
