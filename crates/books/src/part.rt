@@ -7,7 +7,7 @@ ghost use Prim.Native.Nat.{_<_};
 ghost use Rattle.books.specs.Format.{readOf};
 ghost use Rattle.books.specs.Part.{countOf, partOf, partPlace, partWhere, Placed, IsPart};
 
-// A part of a lent book: where it begins, and how many bytes it has.
+// A part of a lent book: where it begins, and how many bytes it has. Laid out as C has it.
 #[repr(C)]
 pub struct RulePart {
     pub place: usize,

@@ -7,7 +7,7 @@ ghost use Rattle.listing.specs.Cursors.{cursorOf, fits, clean, downIn, a
 ghost use Rattle.listing.specs.CursorTests.{Cleaned, Tested};
 ghost use Rattle.listing.specs.Sizes.{Limited, inLimits};
 
-// A prefix: its length, and sixteen values of which those past the length are 0.
+// A prefix: its length, and sixteen values of which those past the length are 0. Laid out as C has it.
 #[repr(C)]
 pub struct Cursor {
     pub len: usize,
