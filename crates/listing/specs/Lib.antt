@@ -20,5 +20,6 @@ pub mod Filled
 pub mod Ending
 pub mod Pages
 pub mod Paging
+pub mod Refusing
 pub mod Answers
 pub mod Promise
