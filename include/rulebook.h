@@ -1,7 +1,8 @@
 /* rulebook.h: rules from tested rows, proved.
  *
- * Every function here is total: it takes any numbers and any bytes, ends, and refuses by number. None allocates, keeps state,
- * or calls the C library. What each answers, and every byte it leaves in a buffer, is proved (see docs/PROMISES.md).
+ * Every function here is total: it takes any numbers and any bytes, ends, and refuses by number. None allocates or keeps state;
+ * of the C library only memcpy and memset are called. What each answers, and every byte it leaves in a buffer, is proved
+ * (see docs/PROMISES.md).
  *
  * A buffer is passed as a pointer and a length in bytes; with length 0 the pointer is not read, but it must not be NULL.
  * The buffers of one call must not overlap. n is the number of values of each setting (1 to 64), l the number of settings (1 to 16).

@@ -1,7 +1,7 @@
 -- Determined: for each public call, any two outcomes that its contract allows are equal, the lent bytes at exit among them.
 use Prim.Native.Nat.{ℕ}
 use mathlib.Core.Path.{_≡_, sym, _∙_}
-use mathlib.Core.List.{List}
+use mathlib.Core.List.{List, []}
 use denote.Ref.{RefT, ptr, now}
 use Rattle.meaning.specs.Rows.{Row}
 use Rattle.tables.specs.declared.Checked.{Checked}
@@ -15,7 +15,7 @@ use Rattle.books.specs.Format.{readOf}
 use Rattle.books.specs.Tested.{testedOf}
 use Rattle.books.specs.Part.{IsPart, partWhere}
 use Rattle.listing.specs.declared.cursor.Cursor.{Cursor}
-use Rattle.listing.specs.Cursors.{downOf, alongOf, upOf}
+use Rattle.listing.specs.Cursors.{cursorOf, downOf, alongOf, upOf}
 use Rattle.listing.specs.Pages.{P, pageOf}
 
 -- a contract that is an equation allows one outcome
@@ -43,6 +43,9 @@ pub rule-determined : (lent r s : RefT (List ℕ)) (p : ℕ) (bytes : List ℕ) 
     → (now r ≡ now s) × (r .ptr .0 ≡ s .ptr .0) × (r .ptr .1 ≡ s .ptr .1)
 rule-determined lent r s p bytes a b =
     (alone bytes _ _ (a .bytes-are) (b .bytes-are), alone (lent .ptr .0) _ _ (a .block) (b .block), alone _ _ _ (a .offset) (b .offset))
+
+pub beginning-determined : (r s : Cursor) → r ≡ cursorOf [] → s ≡ cursorOf [] → r ≡ s
+beginning-determined = alone (cursorOf [])
 
 pub down-determined : (n l : ℕ) (c r s : Cursor) → r ≡ downOf n l c → s ≡ downOf n l c → r ≡ s
 down-determined n l c = alone (downOf n l c)
