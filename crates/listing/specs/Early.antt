@@ -26,7 +26,7 @@ holdsBy g d v = cond (eqb g 0) (leb v d) (leb d v)
 unfoldable pub earlyOf : List ℕ → Row → ℕ → ℕ → Passed
 earlyOf b x p zero = Left p 0
 earlyOf b x p (suc k) =
-    cond (leb (length x) (getD b p 0)) (Left p (suc k)) (cond (holds (literalAt b p) x) Holds (earlyOf b x (p + 3) k))
+    cond (leb (length x) (getD b p 0)) (Left p (suc k)) (cond (holds (literalAt b p) x) (Holds p) (earlyOf b x (p + 3) k))
 
 -- ---- the ways out
 
@@ -39,7 +39,7 @@ module _ (g d v : ℕ) where
   unfolding holdsBy
   holds-least e = rw (ne-eqb g 0 e)
 
-by-literal : (g i d : ℕ) (x : Row) → holdsBy g d (at x i) ≡ holds (literal g i d) x
+pub by-literal : (g i d : ℕ) (x : Row) → holdsBy g d (at x i) ≡ holds (literal g i d) x
 unfolding holdsBy holds
 by-literal zero i d x = refl
 by-literal (suc g) i d x = rw (ne-eqb (suc g) 0 (λ e. omega arith))
@@ -59,7 +59,7 @@ module _ (b : List ℕ) (c : Cursor) (plain : Plain c) (p₀ k₀ p k : ℕ) (y 
 
   module _ (some : 0 < k) (i : ℕ) (e : i ≡ getD b p 0) where
     turn : earlyOf b (prefixOf c) p k
-        ≡ cond (leb (c .len) i) (Left p k) (cond (holds (literalAt b p) (prefixOf c)) Holds (earlyOf b (prefixOf c) (p + 3) (k - 1)))
+        ≡ cond (leb (c .len) i) (Left p k) (cond (holds (literalAt b p) (prefixOf c)) (Holds p) (earlyOf b (prefixOf c) (p + 3) (k - 1)))
     unfolding earlyOf
     turn =
         let s : k ≡ suc (k - 1) = omega arith in
@@ -74,7 +74,7 @@ module _ (b : List ℕ) (c : Cursor) (plain : Plain c) (p₀ k₀ p k : ℕ) (y 
           f ∙ ap (holdsBy (getD b (p + 1) 0) (getD b (p + 2) 0)) (sym (getD-take (c .len) (c .values) i 0 h) ∙ ap (at (prefixOf c)) e)
           ∙ by-literal (getD b (p + 1) 0) (getD b p 0) (getD b (p + 2) 0) (prefixOf c)
 
-      pub passing-holds : r ≡ true → Holds ≡ earlyOf b (prefixOf c) p₀ k₀
+      pub passing-holds : r ≡ true → Holds p ≡ earlyOf b (prefixOf c) p₀ k₀
       passing-holds t = sym (rw (lt-leb (c .len) i h, sym told ∙ t) at turn) ∙ y .left
 
       pub passing-on : r ≡ false → Passing b (prefixOf c) p₀ k₀ (p + 3) (k - 1)

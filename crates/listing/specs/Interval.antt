@@ -20,7 +20,7 @@ use Rattle.listing.specs.declared.scan.Judged.{Judged}
 use Rattle.listing.specs.Literals.{key-low, key-high, decided-here}
 
 abbrev pub forbids : ℕ → ℕ → Judged
-forbids low high = record { lasts = false; low = low; high = high }
+forbids low high = record { lasts = false; low = low; high = high; hint = 0 }
 
 -- v is one of the values from low up to below high
 abbrev pub between : ℕ → ℕ → ℕ → Bool

@@ -34,7 +34,7 @@ pub record Judges (b : List ℕ) (at : ℕ) (x : Row) (j : Judged) : Type 0 wher
 
 -- ---- the ways out of `judge`
 
-dead-one : (r : Rule) (x : Row) → dead (r ∷ []) x ≡ decided (length x) r && not (met r x)
+pub dead-one : (r : Rule) (x : Row) → dead (r ∷ []) x ≡ decided (length x) r && not (met r x)
 unfolding dead
 dead-one r x = or-false (decided (length x) r && not (met r x))
 
@@ -49,8 +49,8 @@ module _ (b : List ℕ) (at : ℕ) (c : Cursor) (plain : Plain c) (s : Stands b 
   longer v = omega (arith, length-append x (v ∷ []))
 
   -- met by all that begin with the prefix
-  judges-met : ((y : Row) → met r (x ++ y) ≡ true) → Judges b at x (forbids 0 0)
-  judges-met h = record { small = omega arith; values = λ v k. never (v ∷ []) ∙ sym (rw (le-leb 0 v (omega arith), le-ltb v 0 (omega arith))); closed = λ e v y k. never (v ∷ y) }
+  judges-met : ((y : Row) → met r (x ++ y) ≡ true) → (hint : ℕ) → Judges b at x (record { lasts = false; low = 0; high = 0; hint = hint })
+  judges-met h hint = record { small = omega arith; values = λ v k. never (v ∷ []) ∙ sym (rw (le-leb 0 v (omega arith), le-ltb v 0 (omega arith))); closed = λ e v y k. never (v ∷ y) }
     where
       never : (y : Row) → dead (r ∷ []) (x ++ y) ≡ false
       never y = dead-one r (x ++ y) ∙ rw (h y) (and-false (decided (length (x ++ y)) r))
@@ -74,7 +74,7 @@ module _ (b : List ℕ) (at : ℕ) (c : Cursor) (plain : Plain c) (s : Stands b 
       last-is m z = let q : at + 3 * count ≡ at + 3 + 3 * m = omega arith in rw (f, q)
 
       pub judges-past : last < c .len → Judges b at x (forbids 0 0)
-      judges-past h = judges-met (λ y. met-prefix r x y (ends (getD b (at + 2) 0) refl) ∙ met-here)
+      judges-past h = judges-met (λ y. met-prefix r x y (ends (getD b (at + 2) 0) refl) ∙ met-here) 0
         where
           ends : (k : ℕ) → getD b (at + 2) 0 ≡ k → T (decided (length x) (literalsAt b (at + 3) k))
           ends zero z = absurd (some (omega arith))
@@ -91,14 +91,14 @@ module _ (b : List ℕ) (at : ℕ) (c : Cursor) (plain : Plain c) (s : Stands b 
         passed : w ≡ earlyOf b x (at + 3) (getD b (at + 2) 0)
         passed = g ∙ ap (earlyOf b x (at + 3)) e
 
-        pub judges-holds : w ≡ Holds → Judges b at x (forbids 0 0)
-        judges-holds t = judges-met (early-holds b x (at + 3) (getD b (at + 2) 0) (sym passed ∙ t))
+        pub judges-holds : (q : ℕ) → w ≡ Holds q → (hint : ℕ) → Judges b at x (record { lasts = false; low = 0; high = 0; hint = hint })
+        judges-holds q t hint = judges-met (early-holds b x (at + 3) (getD b (at + 2) 0) q (sym passed ∙ t)) hint
 
         module _ (q m : ℕ) (t : w ≡ Left q m) where
           pub judged-inside : q + 3 * m ≤ length b
           judged-inside = omega (arith, early-inside b x (at + 3) (getD b (at + 2) 0) q m (sym passed ∙ t), s .inside)
 
-          pub judges-lasts : c .len < last → Judges b at x (record { lasts = true; low = 0; high = 0 })
+          pub judges-lasts : c .len < last → Judges b at x (record { lasts = true; low = 0; high = 0; hint = 0 })
           judges-lasts h = record {
             small = omega arith;
             values = λ v k. dead-one r (x ++ (v ∷ [])) ∙ rw (longer v, is-no (decided (suc (length x)) r) (goes-on (getD b (at + 2) 0) refl), le-leb 0 v (omega arith), le-ltb v 0 (omega arith));

@@ -81,21 +81,21 @@ last-open b p (suc m) k h t =
 left-inj : (p k q m : ℕ) → Left p k ≡ Left q m → (p ≡ q) × (k ≡ m)
 left-inj p k q m e = (cc, cc)
 
-holds-left : (q m : ℕ) → Holds ≡ Left q m → ⊥
-holds-left q m e = let z : _≡_ {A = ℕ} 0 1 = cc in omega arith
+holds-left : (h q m : ℕ) → Holds h ≡ Left q m → ⊥
+holds-left h q m e = let z : _≡_ {A = ℕ} 0 1 = cc in omega arith
 
 module _ (b : List ℕ) (x : Row) where
   -- one holds: the rule is met by all that begin with x
-  pub early-holds : (p k : ℕ) → earlyOf b x p k ≡ Holds → (y : Row) → met (literalsAt b p k) (x ++ y) ≡ true
+  pub early-holds : (p k h : ℕ) → earlyOf b x p k ≡ Holds h → (y : Row) → met (literalsAt b p k) (x ++ y) ≡ true
   unfolding earlyOf literalsAt met
-  early-holds p zero e y = absurd (holds-left p 0 (sym e))
-  early-holds p (suc k) e y = elim (case (leb (length x) (getD b p 0))) [
-    | is l ↦ absurd (holds-left p (suc k) (sym (rw l at e)))
+  early-holds p zero h e y = absurd (holds-left h p 0 (sym e))
+  early-holds p (suc k) q e y = elim (case (leb (length x) (getD b p 0))) [
+    | is l ↦ absurd (holds-left q p (suc k) (sym (rw l at e)))
     | isnt l ↦
         let h : setting (literalAt b p) < length x = omega (arith, setting-here b p, leb-false (length x) (getD b p 0) l) in
         elim (case (holds (literalAt b p) x)) [
           | is t ↦ rw (holds-prefix (literalAt b p) x y h, t)
-          | isnt t ↦ rw (early-holds (p + 3) k (rw (l, t) at e) y) (or-true (holds (literalAt b p) (x ++ y)))
+          | isnt t ↦ rw (early-holds (p + 3) k q (rw (l, t) at e) y) (or-true (holds (literalAt b p) (x ++ y)))
         ]
   ]
 
@@ -106,7 +106,7 @@ module _ (b : List ℕ) (x : Row) where
   early-inside p (suc k) q m e = elim (case (leb (length x) (getD b p 0))) [
     | is l ↦ let i = left-inj p (suc k) q m (rw l at e) in omega (arith, i .0, i .1)
     | isnt l ↦ elim (case (holds (literalAt b p) x)) [
-      | is t ↦ absurd (holds-left q m (rw (l, t) at e))
+      | is t ↦ absurd (holds-left p q m (rw (l, t) at e))
       | isnt t ↦ let i = early-inside (p + 3) k q m (rw (l, t) at e) in omega arith
     ]
   ]
@@ -131,7 +131,7 @@ module _ (b : List ℕ) (x : Row) where
         let i = left-inj p (suc k) q m (rw l at e) in
         rw (← i .0, ← i .1) (record { low = low; ordered = o; small = s; decides = d; later = λ h. leb-true (length x) (getD b p 0) l; same = λ y. refl })
     | isnt l ↦ elim (case (holds (literalAt b p) x)) [
-      | is t ↦ absurd (holds-left q m (rw (l, t) at e))
+      | is t ↦ absurd (holds-left p q m (rw (l, t) at e))
       | isnt t ↦ on l t (early-rest (key (literalAt b p) + 1) (p + 3) k q m (rw (l, t) at e) (o .1) (s .1) (decided-here (suc (length x)) (literalAt b p) (literalsAt b (p + 3) k) d .1))
     ]
   ]

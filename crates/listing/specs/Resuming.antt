@@ -1,4 +1,4 @@
--- Resuming: the way along the given cursor's own values, with one scan for each live prefix on it.
+-- Resuming: the way along the given cursor's own values, with one look for each live prefix on it.
 use Prim.Native.Nat.{ℕ, _+_, _-_, _≤_, _<_}
 use native.Mathlib.Numerals.{add-one}
 use native.Mathlib.Omega.{arith}
@@ -14,30 +14,19 @@ use Rattle.listing.specs.declared.scan.Scanned.{Scanned}
 use Rattle.listing.specs.declared.walk.Walk.{Walk}
 use Rattle.listing.specs.Cursors.{prefixOf}
 use Rattle.listing.specs.Prefixes.{Plain, plain-length, pushOf, push-prefix, push-plain}
-use Rattle.listing.specs.Forbidding.{forbidden}
-use Rattle.listing.specs.Windows.{Window, Scans}
+use Rattle.listing.specs.Values.{forbidden}
+use Rattle.listing.specs.Ruled.{Ruled}
+use Rattle.listing.specs.Looking.{Open}
+use Rattle.listing.specs.Sifting.{Narrowed}
+use Rattle.listing.specs.Holding.{OpenIf, LooksIf}
 use Rattle.listing.specs.Course.{part, part-cons, fromOf, pastOf, below-from}
+use Rattle.listing.specs.Turns.{Allows}
 use Rattle.listing.specs.Steps.{S, inwardOf, runs, runs-nil, runs-append, Ready}
 
--- ---- a scan that is made only where a level is gone into
+-- ---- what a look below cur tells of the prefix one longer
 
-pub record WindowIf (b : List ℕ) (d : Row → Bool) (x : Row) (at rules levels : ℕ) : Type 0 where
-  pub window : (levels ≡ 0 → ⊥) → Window b d x at rules
-  pub live : (levels ≡ 0 → ⊥) → d x ≡ false
-
-pub record ScansIf (b : List ℕ) (d : Row → Bool) (x : Row) (levels : ℕ) (s : Scanned) : Type 0 where
-  pub scans : (levels ≡ 0 → ⊥) → Scans b d x s
-
-pub scans-none : (b : List ℕ) (d : Row → Bool) (x : Row) (levels : ℕ) (s : Scanned) → levels ≡ 0 → ScansIf b d x levels s
-scans-none b d x levels s h = record { scans = λ z. absurd (z h) }
-
-pub scans-some : (b : List ℕ) (d : Row → Bool) (x : Row) (levels : ℕ) (s : Scanned) → Scans b d x s → ScansIf b d x levels s
-scans-some b d x levels s a = record { scans = λ z. a }
-
--- ---- what a scan below cur tells of the prefix one longer
-
-module _ (b : List ℕ) (d : Row → Bool) (ns : Sizes) (room : List ℕ) (cur : Cursor) (levels fit : ℕ) (s : Scanned)
-    (y : Ready ns room cur levels fit) (a : ScansIf b d (prefixOf cur) levels s) (z : levels ≡ 0 → ⊥)
+module _ (b : List ℕ) (d : Row → Bool) (ns : Sizes) (room : List ℕ) (cur : Cursor) (levels fit : ℕ) (p st e : List ℕ) (s : Scanned)
+    (y : Ready ns room cur levels fit) (a : LooksIf b d (prefixOf cur) p st e levels s) (z : levels ≡ 0 → ⊥)
     (v : ℕ) (h : v < getD ns (cur .len) 0) (next : Cursor) (n : next ≡ pushOf cur v) where
   longer : prefixOf next ≡ prefixOf cur ++ (v ∷ [])
   longer = ap (λ (u : Cursor). prefixOf u) n ∙ push-prefix cur v (y .plain) (omega (arith, y .deep, y .limited .short))
@@ -45,22 +34,26 @@ module _ (b : List ℕ) (d : Row → Bool) (ns : Sizes) (room : List ℕ) (cur :
   pub next-small : v < 64
   next-small = omega (arith, y .limited .few (cur .len) (omega (arith, y .deep)))
 
-  pub next-dead : (i : ℕ) → i ≡ v → forbidden (s .allowed) i ≡ d (prefixOf next)
-  next-dead i e = ap (forbidden (s .allowed)) e ∙ a .scans z .values v next-small ∙ ap d (sym longer)
+  pub next-dead : (i : ℕ) → i ≡ v → (t : Bool) → t ≡ forbidden (s .allowed) i → t ≡ d (prefixOf next)
+  next-dead i e t u = u ∙ ap (forbidden (s .allowed)) e ∙ a .looks z .values v next-small ∙ ap d (sym longer)
 
-  pub next-window : d (prefixOf next) ≡ false → Window b d (prefixOf next) (s .at) (s .rules)
-  next-window l = rw longer (a .scans z .window v (sym (ap d longer) ∙ l))
+  pub next-ruled : d (prefixOf next) ≡ false → Ruled b d (prefixOf next) p st e (s .at) (s .rules)
+  next-ruled l = rw longer (a .looks z .next v (sym (ap d longer) ∙ l))
 
-  -- it is gone into only if it is live
-  pub next-window-if : (i : ℕ) → i ≡ v → (k : ℕ) → k ≡ inwardOf (forbidden (s .allowed) i) levels → WindowIf b d (prefixOf next) (s .at) (s .rules) k
-  next-window-if i e k f = record { window = λ q. next-window (live q); live = live }
+  -- after its fronts are made shorter; it is gone into only if it is live
+  pub next-open : d (prefixOf next) ≡ false → (q f : List ℕ) → Narrowed b (prefixOf next) p st e q f → (m : ℕ) → length p ≤ m → Open b d (prefixOf next) q st f (s .at) (s .rules) m
+  next-open l q f w m o = record { ruled = w .ruled d (s .at) (s .rules) (next-ruled l); live = l; laid = w .laid; hints = omega (arith, w .kept .long) }
+
+  pub next-open-if : (i : ℕ) → i ≡ v → (t : Bool) → t ≡ forbidden (s .allowed) i → (k : ℕ) → k ≡ inwardOf t levels
+      → (q f : List ℕ) → Narrowed b (prefixOf next) p st e q f → (m : ℕ) → length p ≤ m → OpenIf b d (prefixOf next) q st f (s .at) (s .rules) m k
+  next-open-if i e t u k g q f w m o = record { opens = λ r. next-open (live r) q f w m o }
     where
       live : (k ≡ 0 → ⊥) → d (prefixOf next) ≡ false
-      live q = go (d (prefixOf next)) (sym (next-dead i e))
+      live r = go t (next-dead i e t u) g
         where
-          go : (t : Bool) → t ≡ forbidden (s .allowed) i → t ≡ false
-          go true u = absurd (q (f ∙ ap (λ (r : Bool). inwardOf r levels) (sym u)))
-          go false u = refl
+          go : (c : Bool) → c ≡ d (prefixOf next) → k ≡ inwardOf c levels → d (prefixOf next) ≡ false
+          go true c o = absurd (r o)
+          go false c o = sym c
 
 -- ---- the way along the cursor c, of which cur is the beginning
 
@@ -147,3 +140,19 @@ module _ (d : Row → Bool) (ns : Sizes) (c cur : Cursor) (levels fit budget : �
             → (r : Walk) (o₂ : List ℕ) → _≡_ {A = S} (r, o₂) (runs d (length ns) fit budget (fromOf d (part ns (cur .len) levels) (prefixOf cur) (v + 1)) (st, o))
             → _≡_ {A = S} (r, o₂) resumeOf
         resume-skip h r o₂ q = resume-on st o (below-dead next (levels - 1) h) r o₂ q
+
+-- ---- the last level
+
+module _ (b : List ℕ) (d : Row → Bool) (ns : Sizes) (cur : Cursor) (levels fit : ℕ) (one : levels ≡ 1) where
+  pub one-ready : (o : List ℕ) → Ready ns o cur levels fit → Ready ns o cur 1 fit
+  one-ready o y = rw one at y
+
+  pub one-allows : (p st e : List ℕ) (s : Scanned) → LooksIf b d (prefixOf cur) p st e levels s → Allows d (prefixOf cur) (s .allowed)
+  one-allows p st e s a = record { is = λ v h. a .looks (λ z. omega arith) .values v h }
+
+  pub one-below : (budget from : ℕ) (st r : Walk) (o o₁ : List ℕ) → _≡_ {A = S} (r, o₁) (runs d (length ns) fit budget (fromOf d (part ns (cur .len) 1) (prefixOf cur) from) (st, o))
+      → _≡_ {A = S} (r, o₁) (runs d (length ns) fit budget (fromOf d (part ns (cur .len) levels) (prefixOf cur) from) (st, o))
+  one-below budget from st r o o₁ h = rw one h
+
+pub looks-allows : (b : List ℕ) (d : Row → Bool) (x : Row) (p st e : List ℕ) (levels : ℕ) (s : Scanned) → (levels ≡ 0 → ⊥) → LooksIf b d x p st e levels s → Allows d x (s .allowed)
+looks-allows b d x p st e levels s z a = record { is = a .looks z .values }

@@ -49,7 +49,7 @@ stand-at b at zero i s h = absurd (omega arith)
 stand-at b at (suc k) zero s h = s .0
 stand-at b at (suc k) (suc i) s h = stand-at b (endAt b at) k i (s .1) (omega arith)
 
-stand-front : (b : List ℕ) (at k j : ℕ) → AllStand b at k → j ≤ k → AllStand b at j
+pub stand-front : (b : List ℕ) (at k j : ℕ) → AllStand b at k → j ≤ k → AllStand b at j
 stand-front b at k zero s h = tt
 stand-front b at zero (suc j) s h = absurd (omega arith)
 stand-front b at (suc k) (suc j) s h = (s .0, stand-front b (endAt b at) k j (s .1) (omega arith))

@@ -4,13 +4,13 @@ use native.Mathlib.Nat.{sub-zero}
 use native.Mathlib.Omega.{arith}
 use mathlib.Core.Path.{_≡_, sym, ap, _∙_}
 use mathlib.Core.Bool.{Bool, true, false}
-use mathlib.Core.List.{List, [], _++_}
+use mathlib.Core.List.{List, []}
 use lib.ListN.{length, getD, take}
 use lib.Seq.{getD-take}
 use borrow.Author.Tests.{le-ltb}
 use Rattle.meaning.specs.Rows.{Row, Sizes}
 use Rattle.meaning.specs.Rules.{setting, met}
-use Rattle.meaning.specs.Bytes.{literalAt, literalsAt, endAt, rulesAt, wordAt, rulesIn}
+use Rattle.meaning.specs.Bytes.{literalAt, literalsAt, endAt, rulesAt, placeAt, wordAt, rulesIn}
 use Rattle.meaning.specs.Listing.{decided, dead}
 use Rattle.listing.specs.declared.cursor.Cursor.{Cursor}
 use Rattle.listing.specs.declared.walk.Walk.{Walk}
@@ -18,7 +18,11 @@ use Rattle.listing.specs.Sizes.{Limited}
 use Rattle.listing.specs.Cursors.{prefixOf, cursorOf}
 use Rattle.listing.specs.Prefixes.{plain-cursor, plain-length, Good, begins-at}
 use Rattle.listing.specs.Standing.{Stands, AllStand}
-use Rattle.listing.specs.Windows.{Window}
+use Rattle.listing.specs.declared.groups.Groups.{Groups}
+use Rattle.listing.specs.Ruled.{Ruled}
+use Rattle.listing.specs.Looking.{Open}
+use Rattle.listing.specs.Sifting.{Narrowable}
+use Rattle.listing.specs.Grouping.{Grouped, grouped-ruled}
 use Rattle.listing.specs.Course.{part-all, pastOf}
 use Rattle.listing.specs.Steps.{S, runs, runs-nil, Ready}
 use Rattle.listing.specs.Resuming.{Along, past-none, resumeOf}
@@ -118,14 +122,20 @@ module _ (b : List ℕ) (rules : ℕ) (ns : Sizes) (room : List ℕ) (c : Cursor
       },
     )
 
-    pub start-window : Window b d (prefixOf root) 7 rules
-    start-window = record { few = y .few; stand = y .stand; tells = λ x. rules-here (prefixOf root ++ x) }
+    pub start-open : dead (rulesAt b 7 rules) [] ≡ false → (n at : ℕ) (p : List ℕ) (g : Groups) → n ≤ rules → at ≡ placeAt b 7 n → Grouped b n p g → (m : ℕ) → length p ≤ m
+        → Narrowable b p (g .starts) (g .ends) m × Open b d (prefixOf root) p (g .starts) (g .ends) at (rules - n) m
+    start-open live n at p g h e a m l =
+        let r : Ruled b d [] p (g .starts) (g .ends) at (rules - n) = grouped-ruled b rules n p g d rules-here (y .stand) (y .few) h a at e in (
+          record { laid = a .laid; hints = l; ends = λ f i o k q. r .entries f i o k q .stands .inside },
+          rw root-prefix (record { ruled = r; live = rules-here [] ∙ live; laid = a .laid; hints = l }),
+        )
 
-    pub start-live : (t : Bool) → t ≡ dead (rulesAt b 7 rules) [] → t ≡ false → d (prefixOf root) ≡ false
-    start-live t e h = ap d root-prefix ∙ rules-here [] ∙ sym e ∙ h
-
-    pub start-on : (w : Walk) (o : List ℕ) → _≡_ {A = S} (w, o) (resumeOf d ns c root (length ns) fit budget w₀ room) → _≡_ {A = S} (w, o) startOf
+    pub start-on : (st w : Walk) (o : List ℕ) → _≡_ {A = S} (w, o) (resumeOf d ns c root (length ns) fit budget st room)
+        → _≡_ {A = S} (w, o) (runs d (length ns) fit budget (pastOf d ns [] (prefixOf c)) (st, room))
     unfolding cursorOf
-    start-on w o h =
-        h ∙ ap (λ (x : Cursor). resumeOf d ns c x (length ns) fit budget w₀ room) r
-        ∙ ap (λ (t : Sizes). runs d (length ns) fit budget (pastOf d t [] (prefixOf c)) (w₀, room)) (part-all ns)
+    start-on st w o h =
+        h ∙ ap (λ (x : Cursor). resumeOf d ns c x (length ns) fit budget st room) r
+        ∙ ap (λ (t : Sizes). runs d (length ns) fit budget (pastOf d t [] (prefixOf c)) (st, room)) (part-all ns)
+
+  pub start-live : (t : Bool) → t ≡ dead (rulesAt b 7 rules) [] → t ≡ false → dead (rulesAt b 7 rules) [] ≡ false
+  start-live t e h = sym e ∙ h

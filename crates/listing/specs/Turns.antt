@@ -3,9 +3,12 @@ use Prim.Native.Nat.{ℕ, suc, _+_, _-_, _≤_, _<_}
 use native.Mathlib.Numerals.{add-one}
 use native.Mathlib.Omega.{arith}
 use mathlib.Core.Path.{_≡_, refl, sym, ap, _∙_}
-use mathlib.Core.Bool.{Bool, true, false}
+use mathlib.Core.Bool.{Bool, true, false, cond}
 use mathlib.Core.List.{List, [], _∷_, _++_}
+use lib.Dec.{eqb}
 use lib.ListN.{length, getD}
+use borrow.Author.Tests.{eq-eqb, ne-eqb, eqb-true}
+use Rattle.meaning.specs.Tests.{case, is, isnt}
 use Rattle.meaning.specs.Lists.{each}
 use Rattle.meaning.specs.Rows.{Row, Sizes}
 use Rattle.meaning.specs.Listing.{below}
@@ -13,8 +16,9 @@ use Rattle.listing.specs.declared.cursor.Cursor.{Cursor}
 use Rattle.listing.specs.declared.walk.Walk.{Walk}
 use Rattle.listing.specs.Cursors.{prefixOf}
 use Rattle.listing.specs.Prefixes.{Plain, pushOf, push-same, push-prefix, push-plain}
+use Rattle.listing.specs.Values.{forbidden}
 use Rattle.listing.specs.Course.{part, part-cons, branchOf, fromOf, stopAt, below-from}
-use Rattle.listing.specs.Steps.{S, moveOf, inwardOf, goesOn, visitOf, runs, runs-nil, runs-cons, runs-append, runs-shut, shut-rows, shut-steps, open-both, Fits, Ready}
+use Rattle.listing.specs.Steps.{S, walkOf, moveOf, inwardOf, goesOn, visitOf, runs, runs-nil, runs-cons, runs-append, runs-shut, shut-rows, shut-steps, open-both, Fits, Ready}
 
 pub inward-less : (b : Bool) (k : ℕ) → (k ≡ 0 → ⊥) → inwardOf b k < k
 inward-less true k h = omega arith
@@ -55,7 +59,7 @@ module _ (d : Row → Bool) (ns : Sizes) (cur : Cursor) (levels fit budget : ℕ
         sym (runs-nil d (length ns) fit budget (w, o)) ∙ (rw e at (g .left))
 
     -- one value: its visit, and what is below it
-    turn : Plain cur → cur .len < 16 → v < getD ns (cur .len) 0 → w .rows < fit → w .steps < budget
+    pub turn : Plain cur → cur .len < 16 → v < getD ns (cur .len) 0 → w .rows < fit → w .steps < budget
         → runs d (length ns) fit budget (leftAt (getD ns (cur .len) 0) v) (w, o)
         ≡ runs d (length ns) fit budget (leftAt (getD ns (cur .len) 0) (v + 1))
         (runs d (length ns) fit budget (fromOf d (part ns (cur .len + 1) (inwardOf (d (prefixOf cur ++ (v ∷ []))) levels)) (prefixOf cur ++ (v ∷ [])) 0)
@@ -118,3 +122,111 @@ module _ (d : Row → Bool) (ns : Sizes) (cur : Cursor) (levels fit budget : ℕ
       next-ready o₁ lo b k f =
           let less = inward-less b levels z in
           record { cells = rw (lo ∙ g .long) (y .cells); plain = next-plain; deep = omega (arith, y .deep, f, next-len); limited = y .limited }
+
+-- ---- the last level: nothing is below its values
+
+pub record Allows (d : Row → Bool) (x : Row) (set : ℕ) : Type 0 where
+  pub is : (v : ℕ) → v < 64 → forbidden set v ≡ d (x ++ (v ∷ []))
+
+module _ (d : Row → Bool) (ns : Sizes) (cur : Cursor) (fit budget : ℕ) (from : ℕ) (st : Walk) (o₀ o : List ℕ) (w : Walk) (v : ℕ)
+    (y : Ready ns o₀ cur 1 fit) (g : Going d ns cur 1 fit budget from st o₀ o w v) (next : Cursor) (n : next ≡ pushOf cur v) (h : v < getD ns (cur .len) 0) where
+  pub leaf-small : (i : ℕ) → i ≡ v → i < 64
+  leaf-small i e = omega (arith, y .limited .few (cur .len) (omega (arith, y .deep)))
+
+  pub leaf-on : (set : ℕ) → Allows d (prefixOf cur) set → w .rows < fit → w .steps < budget → (i : ℕ) → i ≡ v → (b : Bool) → b ≡ forbidden set i
+      → (seen : Walk) (o₁ : List ℕ) → _≡_ {A = S} (seen, o₁) (moveOf (length ns) b next (w, o)) → length o₁ ≡ length o
+      → Going d ns cur 1 fit budget from st o₀ o₁ seen (v + 1)
+  leaf-on set a i j k e b f seen o₁ m lo =
+      going-on d ns cur 1 fit budget from st o₀ o w v y g (λ z. omega arith) next n h i j b dead seen o₁ m lo 0 (none b) seen o₁
+      (sym (runs-nil d (length ns) fit budget (seen, o₁))) refl
+    where
+      none : (c : Bool) → 0 ≡ inwardOf c 1
+      none true = refl
+      none false = refl
+
+      longer : prefixOf next ≡ prefixOf cur ++ (v ∷ [])
+      longer = ap (λ (u : Cursor). prefixOf u) n ∙ push-prefix cur v (y .plain) (omega (arith, y .deep, y .limited .short))
+
+      dead : b ≡ d (prefixOf next)
+      dead = f ∙ ap (forbidden set) e ∙ a .is v (omega (arith, leaf-small v refl)) ∙ ap d (sym longer)
+
+-- ---- a run of dead values: only the steps and the last prefix change
+
+abbrev pub skipOf : Walk → Cursor → ℕ → ℕ → Walk
+skipOf w cur v u = cond (eqb u v) w (walkOf (pushOf cur (u - 1)) true (w .rows) (w .steps + (u - v)))
+
+module _ (d : Row → Bool) (ns : Sizes) (cur : Cursor) (fit budget : ℕ) where
+  -- from the walk w at the value v to the walk r at u, with nothing left out
+  pub record Skips (w : Walk) (v : ℕ) (r : Walk) (u : ℕ) : Type 0 where
+    pub ahead : v ≤ u
+    pub on : (levels from : ℕ) (st : Walk) (o₀ o : List ℕ) → Going d ns cur levels fit budget from st o₀ o w v → Going d ns cur levels fit budget from st o₀ o r u
+
+  pub skips-none : (w : Walk) (v : ℕ) → Skips w v w v
+  skips-none w v = record { ahead = omega arith; on = λ levels from st o₀ o g. g }
+
+  pub record Skipping (w : Walk) (v steps u : ℕ) : Type 0 where
+    pub count : steps ≡ w .steps + (u - v)
+    pub skips : Skips w v (skipOf w cur v u) u
+
+  pub skipping-start : (w : Walk) (v : ℕ) → Skipping w v (w .steps) v
+  skipping-start w v = record { count = omega arith; skips = rw (eq-eqb v v refl) (skips-none w v) }
+
+  skip-rows : (w : Walk) (v u : ℕ) → skipOf w cur v u .rows ≡ w .rows
+  skip-rows w v u = go (eqb u v)
+    where
+      go : (t : Bool) → cond t w (walkOf (pushOf cur (u - 1)) true (w .rows) (w .steps + (u - v))) .rows ≡ w .rows
+      go true = refl
+      go false = refl
+
+  skip-steps : (w : Walk) (v u : ℕ) → skipOf w cur v u .steps ≡ w .steps + (u - v)
+  skip-steps w v u = elim (case (eqb u v)) [
+    | is t ↦ rw t (let e = eqb-true u v t in omega arith)
+    | isnt t ↦ rw t
+  ]
+
+  -- one dead value
+  dead-turn : (levels from : ℕ) (st : Walk) (o₀ o : List ℕ) (w : Walk) (u : ℕ) → Plain cur → cur .len < 16 → u < getD ns (cur .len) 0 → w .rows < fit → w .steps < budget
+      → d (prefixOf cur ++ (u ∷ [])) ≡ true → Going d ns cur levels fit budget from st o₀ o w u
+      → Going d ns cur levels fit budget from st o₀ o (walkOf (pushOf cur u) true (w .rows) (w .steps + 1)) (u + 1)
+  dead-turn levels from st o₀ o w u p h k r m e g = record {
+    long = g .long;
+    left = sym (rw (e, runs-nil d (length ns) fit budget (walkOf (pushOf cur u) true (w .rows) (w .steps + 1), o)) at (turn d ns cur levels fit budget from st o₀ o w u p h k r m)) ∙ g .left;
+  }
+
+  module _ (w : Walk) (v steps u : ℕ) (y : Skipping w v steps u) where
+    pub skipping-on : Plain cur → cur .len < 16 → u < getD ns (cur .len) 0 → getD ns (cur .len) 0 ≤ 64 → w .rows < fit → steps < budget
+        → (set : ℕ) → Allows d (prefixOf cur) set → (i : ℕ) → i ≡ u → (t : Bool) → t ≡ forbidden set i → t ≡ true → Skipping w v (steps + 1) (u + 1)
+    skipping-on p h k small r m set a i e t f z = record {
+      count = omega (arith, y .count, y .skips .ahead);
+      skips = record {
+        ahead = omega (arith, y .skips .ahead);
+        on = λ levels from st o₀ o g.
+            rw (same) (dead-turn levels from st o₀ o (skipOf w cur v u) u p h k (omega (arith, skip-rows w v u)) (omega (arith, skip-steps w v u, y .count)) kills (y .skips .on levels from st o₀ o g));
+      };
+    }
+      where
+        kills : d (prefixOf cur ++ (u ∷ [])) ≡ true
+        kills = sym (a .is u (omega arith)) ∙ sym (ap (forbidden set) e) ∙ sym f ∙ z
+
+        same : skipOf w cur v (u + 1) ≡ walkOf (pushOf cur u) true (skipOf w cur v u .rows) (skipOf w cur v u .steps + 1)
+        same =
+            let n : u + 1 - 1 ≡ u = omega arith in
+            let q : w .steps + (u + 1 - v) ≡ w .steps + (u - v) + 1 = omega (arith, y .skips .ahead) in
+            rw (ne-eqb (u + 1) v (λ c. omega (arith, y .skips .ahead)), skip-rows w v u, skip-steps w v u, n, q)
+
+    pub skipping-end : (r : Walk) (x : ℕ) → (r ≡ skipOf w cur v u) × (x ≡ u) → Skips w v r x
+    skipping-end r x e = rw (e .0, e .1) (y .skips)
+
+  -- from the walk behind the run on, the whole is the same
+  pub skips-whole : (levels : ℕ) (w : Walk) (v : ℕ) (r : Walk) (u : ℕ) (o : List ℕ) → (levels ≡ 0 → ⊥) → Skips w v r u
+      → wholeOf d ns cur levels fit budget u (r, o) ≡ wholeOf d ns cur levels fit budget v (w, o)
+  skips-whole levels w v r u o z s =
+      sym (going-start d ns cur levels fit budget u r o z .left) ∙ s .on levels v w o o (going-start d ns cur levels fit budget v w o z) .left
+
+-- the ways out of `after_run`
+pub skipped-none : (cur : Cursor) (w : Walk) (v u : ℕ) → u ≡ v → w ≡ skipOf w cur v u
+skipped-none cur w v u e = rw (eq-eqb u v e)
+
+pub skipped-some : (cur : Cursor) (w : Walk) (v u steps : ℕ) → (u ≡ v → ⊥) → steps ≡ w .steps + (u - v) → (q : Cursor) → q ≡ pushOf cur (u - 1) → (r : Walk) → r ≡ walkOf q true (w .rows) steps
+    → r ≡ skipOf w cur v u
+skipped-some cur w v u steps n e q f r g = g ∙ rw (ne-eqb u v n, f, e)

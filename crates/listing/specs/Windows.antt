@@ -3,10 +3,9 @@ use Prim.Native.Nat.{ℕ, _+_, _-_, _≤_, _<_}
 use native.Mathlib.Nat.{sub-zero}
 use native.Mathlib.Omega.{arith}
 use mathlib.Core.Path.{_≡_, refl, sym, ap, _∙_}
-use mathlib.Core.Bool.{Bool, true, false, cond, not, _||_, or-false, or-comm, true≢false}
+use mathlib.Core.Bool.{Bool, true, false, cond, not, _||_, or-false, true≢false}
 use mathlib.Core.List.{List, [], _∷_, _++_, append-nil}
 use lib.Dec.{eqb}
-use lib.ListN.{length, replicate, getD-replicate}
 use lib.Seq.{append-snoc}
 use borrow.Author.Tests.{eq-eqb, ne-eqb, eqb-true, not-true, not-false}
 use Rattle.meaning.specs.Rows.{Row}
@@ -19,7 +18,7 @@ use Rattle.listing.specs.declared.scan.Span.{Span}
 use Rattle.listing.specs.declared.scan.Scanned.{Scanned}
 use Rattle.listing.specs.Standing.{Stands, AllStand, place-add, place-next, rules-add, rules-split, stand-at, stand-part}
 use Rattle.listing.specs.Judging.{Judges}
-use Rattle.listing.specs.Forbidding.{forbidden, Forbids}
+use Rattle.listing.specs.Values.{forbidden, Forbids}
 
 -- d, below the prefix x, is what the k rules from place `at` on say
 pub record Window (b : List ℕ) (d : Row → Bool) (x : Row) (at k : ℕ) : Type 0 where
@@ -27,9 +26,9 @@ pub record Window (b : List ℕ) (d : Row → Bool) (x : Row) (at k : ℕ) : Typ
   pub stand : AllStand b at k
   pub tells : (y : Row) → d (x ++ y) ≡ dead (rulesAt b at k) (x ++ y)
 
--- what a scan below x gives: the values that may follow x, and a window for each of those prefixes
-pub record Scans (b : List ℕ) (d : Row → Bool) (x : Row) (s : Scanned) : Type 0 where
-  pub values : (v : ℕ) → v < 64 → forbidden (s .allowed) v ≡ d (x ++ (v ∷ []))
+-- what a scan below x gives: the values of a set that may follow x, and a window for each of those prefixes
+pub record Scans (b : List ℕ) (d : Row → Bool) (x : Row) (set : ℕ) (s : Scanned) : Type 0 where
+  pub values : (v : ℕ) → v < 64 → forbidden (s .allowed) v ≡ d (x ++ (v ∷ [])) || forbidden set v
   pub window : (v : ℕ) → d (x ++ (v ∷ [])) ≡ false → Window b d (x ++ (v ∷ [])) (s .at) (s .rules)
 
 -- the span with rule i, whose mark is at place `at`, if it lasts
@@ -54,7 +53,7 @@ module _ (w : Span) (lasts : Bool) (at i : ℕ) where
 
 -- ---- the loop of the scan: i rules from place `from` on are judged
 
-module _ (b : List ℕ) (from : ℕ) (x : Row) where
+module _ (b : List ℕ) (from : ℕ) (x : Row) (set : ℕ) where
   -- with the value v the first i rules leave x alive
   abbrev Lives : ℕ → ℕ → Type 0
   Lives i v = dead (rulesAt b from i) (x ++ (v ∷ [])) ≡ false
@@ -66,20 +65,18 @@ module _ (b : List ℕ) (from : ℕ) (x : Row) where
     pub lead : (v : ℕ) (y : Row) → Lives i v → dead (rulesAt b from (w .first)) (x ++ (v ∷ y)) ≡ false
     pub tail : (v : ℕ) (y : Row) → Lives i v → dead (rulesAt b (placeAt b from (w .end)) (i - w .end)) (x ++ (v ∷ y)) ≡ false
 
-  pub record Scanning (rules : ℕ) (allowed : List ℕ) (w : Span) (at i : ℕ) : Type 0 where
+  pub record Scanning (rules allowed : ℕ) (w : Span) (at i : ℕ) : Type 0 where
     pub inside : i ≤ rules
     pub place : at ≡ placeAt b from i
-    pub long : length allowed ≡ 64
-    pub values : (v : ℕ) → v < 64 → forbidden allowed v ≡ dead (rulesAt b from i) (x ++ (v ∷ []))
+    pub values : (v : ℕ) → v < 64 → forbidden allowed v ≡ dead (rulesAt b from i) (x ++ (v ∷ [])) || forbidden set v
     pub spans : Spans w i
 
-  pub scanning-start : (rules : ℕ) → Scanning rules (replicate 64 1) (record { at = from; first = 0; end = 0 }) from 0
+  pub scanning-start : (rules : ℕ) → Scanning rules set (record { at = from; first = 0; end = 0 }) from 0
   unfolding rulesAt placeAt dead
   scanning-start rules = record {
     inside = omega arith;
     place = refl;
-    long = refl;
-    values = λ v h. ap (λ (n : ℕ). eqb n 0) (getD-replicate 64 v 1 0 h);
+    values = λ v h. refl;
     spans = record { ordered = (omega arith, omega arith); place = refl; lead = λ v y l. refl; tail = λ v y l. refl };
   }
 
@@ -133,20 +130,25 @@ module _ (b : List ℕ) (from : ℕ) (x : Row) where
       tail = λ v y l. none-behind v y;
     }
 
-  pub scanning-on : (rules : ℕ) (allowed : List ℕ) (w : Span) (at i : ℕ) → Scanning rules allowed w at i → i < rules
-      → (j : Judged) → Judges b at x j → (new : List ℕ) → Forbids allowed (j .low) (j .high) new → (w′ : Span) → w′ ≡ widenOf w (j .lasts) at i
+  pub scanning-on : (rules allowed : ℕ) (w : Span) (at i : ℕ) → Scanning rules allowed w at i → i < rules
+      → (j : Judged) → Judges b at x j → (new : ℕ) → Forbids allowed (j .low) (j .high) new → (w′ : Span) → w′ ≡ widenOf w (j .lasts) at i
       → (at′ : ℕ) → at′ ≡ endAt b at → Scanning rules new w′ at′ (i + 1)
   unfolding widenOf
   scanning-on rules allowed w at i s h j g new f w′ q at′ r = record {
     inside = omega arith;
     place = r ∙ ap (endAt b) (s .place) ∙ sym (place-next b from i);
-    long = f .long ∙ s .long;
     values = λ v k.
-        f .is v (omega (arith, s .long)) ∙ rw (s .values v k, ← g .values v k, s .place)
-        (or-comm (dead (ruleAt b (placeAt b from i) ∷ []) (x ++ (v ∷ []))) (dead (rulesAt b from i) (x ++ (v ∷ []))) ∙ sym (dead-next from i (x ++ (v ∷ []))));
+        f .is v k ∙ rw (s .values v k, ← g .values v k, s .place, dead-next from i (x ++ (v ∷ [])))
+        (turned (dead (ruleAt b (placeAt b from i) ∷ []) (x ++ (v ∷ []))) (dead (rulesAt b from i) (x ++ (v ∷ []))) (forbidden set v));
     spans = rw q (go (j .lasts) refl (eqb (w .end) 0) refl);
   }
     where
+      turned : (p q r : Bool) → p || (q || r) ≡ (q || p) || r
+      turned true true r = refl
+      turned true false r = refl
+      turned false true r = refl
+      turned false false r = refl
+
       go : (t : Bool) → j .lasts ≡ t → (z : Bool) → eqb (w .end) 0 ≡ z → Spans (widenOf w t at i) (i + 1)
       go false e z k = spans-not w i (s .spans) (λ v y. rw (s .place) at (g .closed e v y))
       go true e true k = rw k (spans-first w i (s .spans) at (s .place) (eqb-true (w .end) 0 k))
@@ -154,27 +156,27 @@ module _ (b : List ℕ) (from : ℕ) (x : Row) where
 
 -- ---- what the scan asks for, and what it comes to
 
-module _ (b : List ℕ) (d : Row → Bool) (x : Row) (from rules : ℕ) (y : Window b d x from rules) where
+module _ (b : List ℕ) (d : Row → Bool) (x : Row) (from rules set : ℕ) (y : Window b d x from rules) where
   -- a rule of the window does not make the live prefix dead
   window-live : d x ≡ false → (i : ℕ) → i < rules → dead (ruleAt b (placeAt b from i) ∷ []) x ≡ false
   window-live l i h =
       let whole : dead (rulesAt b from rules) x ≡ false = sym (rw (append-nil x) at (y .tells [])) ∙ l in
-      let front = or-none b from x (dead (rulesAt b from (i + 1)) x) (dead (rulesAt b (placeAt b from (i + 1)) (rules - (i + 1))) x)
+      let front = or-none b from x set (dead (rulesAt b from (i + 1)) x) (dead (rulesAt b (placeAt b from (i + 1)) (rules - (i + 1))) x)
       (sym (ap (λ (rs : List Rule). dead rs x) (rules-split b from (i + 1) rules (omega arith)) ∙ dead-append (rulesAt b from (i + 1)) (rulesAt b (placeAt b from (i + 1)) (rules - (i + 1))) x) ∙ whole) .0 in
-      or-none b from x (dead (rulesAt b from i) x) (dead (ruleAt b (placeAt b from i) ∷ []) x) (sym (dead-next b from x from i x) ∙ front) .1
+      or-none b from x set (dead (rulesAt b from i) x) (dead (ruleAt b (placeAt b from i) ∷ []) x) (sym (dead-next b from x set from i x) ∙ front) .1
 
   -- what is asked for the next rule
-  pub scanning-next : d x ≡ false → (allowed : List ℕ) (w : Span) (at i : ℕ) → Scanning b from x rules allowed w at i → i < rules
+  pub scanning-next : d x ≡ false → (allowed : ℕ) (w : Span) (at i : ℕ) → Scanning b from x set rules allowed w at i → i < rules
       → Stands b at × (dead (ruleAt b at ∷ []) x ≡ false)
   scanning-next l allowed w at i s h = rw (s .place) (stand-at b from rules i (y .stand) h, window-live l i h)
 
-  pub scanning-end : (allowed : List ℕ) (w : Span) (at i : ℕ) → Scanning b from x rules allowed w at i → rules ≤ i
-      → Scans b d x (record { allowed = allowed; at = w .at; rules = w .end - w .first })
+  pub scanning-end : (allowed : ℕ) (w : Span) (at i : ℕ) → Scanning b from x set rules allowed w at i → rules ≤ i
+      → Scans b d x set (record { allowed = allowed; at = w .at; rules = w .end - w .first })
   scanning-end allowed w at i s h =
       let e : i ≡ rules = omega (arith, s .inside) in
-      record { values = λ v k. s .values v k ∙ rw e (sym (y .tells (v ∷ []))); window = λ v l. next v l (rw e at (s .spans)) }
+      record { values = λ v k. let q : dead (rulesAt b from i) (x ++ (v ∷ [])) ≡ d (x ++ (v ∷ [])) = rw e (sym (y .tells (v ∷ []))) in s .values v k ∙ ap (λ (t : Bool). t || forbidden set v) q; window = λ v l. next v l (rw e at (s .spans)) }
     where
-      next : (v : ℕ) → d (x ++ (v ∷ [])) ≡ false → Spans b from x w rules → Window b d (x ++ (v ∷ [])) (w .at) (w .end - w .first)
+      next : (v : ℕ) → d (x ++ (v ∷ [])) ≡ false → Spans b from x set w rules → Window b d (x ++ (v ∷ [])) (w .at) (w .end - w .first)
       next v l p = record {
         few = omega (arith, y .few, p .ordered .1);
         stand = rw (p .place) (stand-part b from rules (w .first) (w .end - w .first) (y .stand) (omega (arith, p .ordered .0, p .ordered .1)));

@@ -1,7 +1,9 @@
 // Listing the permitted combinations of a book by pages: the cursor and its moves, and the page.
 mod cursor;
+mod groups;
 mod paging;
 mod scan;
+mod values;
 mod walk;
 
 pub use cursor::Cursor;

@@ -1,11 +1,12 @@
 // One scan of the rules below a live prefix: which values may follow it, and which of the rules can still make a prefix below dead.
 use crate::cursor::Cursor;
+use crate::values::without;
 ghost use mathlib.Core.Path.{_≡_};
 ghost use mathlib.Core.Bool.{false};
 ghost use mathlib.Core.List.{[], _∷_};
 ghost use Prim.Native.Nat.{_+_, _*_, _≤_, _<_};
 ghost use lib.ListN.{length};
-ghost use Rattle.meaning.specs.Bytes.{endAt, ruleAt, rulesIn};
+ghost use Rattle.meaning.specs.Bytes.{endAt, ruleAt, rulesAt};
 ghost use Rattle.meaning.specs.Listing.{dead};
 ghost use Rattle.listing.specs.Cursors.{prefixOf};
 ghost use Rattle.listing.specs.Prefixes.{Plain};
@@ -13,7 +14,6 @@ ghost use Rattle.listing.specs.Standing.{Stands};
 ghost use Rattle.listing.specs.Early.{holdsBy, earlyOf};
 ghost use Rattle.listing.specs.Interval.{intervalOf};
 ghost use Rattle.listing.specs.Judging.{Judges};
-ghost use Rattle.listing.specs.Forbidding.{Forbids};
 ghost use Rattle.listing.specs.Windows.{widenOf, Window, Scans};
 
 // A byte as a number.
@@ -23,18 +23,19 @@ pub fn wide(x: u8) -> usize
     x as usize
 }
 
-// What the literals on the settings of a prefix say: one of them holds; or none does, and so many are left from a place on.
+// What the literals on the settings of a prefix say: the one at a place holds; or none does, and so many are left from a place on.
 pub enum Passed {
-    Holds,
+    Holds(usize),
     Left(usize, usize),
 }
 
 // What a rule asks of the value after a prefix: values from low up to below high are forbidden; if it lasts, it can still make a
-// prefix below dead.
+// prefix below dead. The hint is the number of a literal that holds, from 1, or 0; no answer rests on it.
 pub struct Judged {
     pub lasts: bool,
     pub low: usize,
     pub high: usize,
+    pub hint: u8,
 }
 
 // Some of the rules in a row: from number `first`, whose mark is at place `at`, up to below number `end`.
@@ -44,16 +45,16 @@ pub struct Span {
     pub end: usize,
 }
 
-// What a scan gives: 0 for each value with which the prefix is dead; and the rules that matter below, their number and the place
+// What a scan gives: the values with which the prefix is not dead; and the rules that matter below, their number and the place
 // of the first.
 pub struct Scanned {
-    pub allowed: [u8; 64],
+    pub allowed: u64,
     pub at: usize,
     pub rules: usize,
 }
 
 // Does the literal of this sign and bound hold of the value?
-fn holds(sign: u8, bound: u8, value: u8) -> bool
+pub fn holds(sign: u8, bound: u8, value: u8) -> bool
     ensures { λ r. ⌜ r ≡ holdsBy sign bound value ⌝ }
 {
     if sign == 0 {
@@ -63,7 +64,7 @@ fn holds(sign: u8, bound: u8, value: u8) -> bool
 }
 
 // Of `count` literals from place p on, by setting ascending, those on the settings of the prefix.
-fn early(book: &[u8], p: usize, count: usize, cur: Cursor) -> Passed
+pub fn early(book: &[u8], p: usize, count: usize, cur: Cursor) -> Passed
     requires { ⌜ Plain cur × (p + 3 * count ≤ length (now book)) ⌝ }
     ensures { λ r. ⌜ r ≡ earlyOf (now (book .entry)) (prefixOf cur) p count ⌝ }
 {
@@ -77,7 +78,7 @@ fn early(book: &[u8], p: usize, count: usize, cur: Cursor) -> Passed
             return Passed::Left(at, left);
         }
         if holds(book[at + 1], book[at + 2], values[i]) {
-            return Passed::Holds;
+            return Passed::Holds(at);
         }
         at += 3;
         left -= 1;
@@ -95,6 +96,7 @@ fn interval(book: &[u8], p: usize, left: usize) -> Judged
             lasts: false,
             low: 0,
             high: 64,
+            hint: 0,
         };
     }
     let bound = wide(book[p + 2]);
@@ -103,6 +105,7 @@ fn interval(book: &[u8], p: usize, left: usize) -> Judged
             lasts: false,
             low: 0,
             high: bound,
+            hint: 0,
         };
     }
     if left == 1 {
@@ -110,18 +113,28 @@ fn interval(book: &[u8], p: usize, left: usize) -> Judged
             lasts: false,
             low: bound + 1,
             high: 64,
+            hint: 0,
         };
     }
     Judged {
         lasts: false,
         low: bound + 1,
         high: wide(book[p + 5]),
+        hint: 0,
     }
+}
+
+// The number of the literal at place q of the rule at place `at`, from 1.
+fn number(at: usize, q: usize) -> u8 {
+    if q < at {
+        return 0;
+    }
+    ((q - at) / 3 % 256) as u8
 }
 
 // What the rule at place `at` asks below the prefix, which it does not make dead. Its last literal tells at once where it is met
 // already; a rule that goes on behind the next setting forbids nothing yet.
-fn judge(book: &[u8], at: usize, cur: Cursor) -> Judged
+pub fn judge(book: &[u8], at: usize, cur: Cursor) -> Judged
     requires { ⌜ Plain cur × Stands (now book) at × (dead (ruleAt (now book) at ∷ []) (prefixOf cur) ≡ false) ⌝ }
     ensures { λ r. ⌜ Judges (now (book .entry)) at (prefixOf cur) r ⌝ }
 {
@@ -129,6 +142,7 @@ fn judge(book: &[u8], at: usize, cur: Cursor) -> Judged
         lasts: false,
         low: 0,
         high: 0,
+        hint: 0,
     };
     let count = wide(book[at + 2]);
     if count == 0 {
@@ -140,29 +154,23 @@ fn judge(book: &[u8], at: usize, cur: Cursor) -> Judged
         return none;
     }
     match early(book, at + 3, count, cur) {
-        Passed::Holds => none,
+        Passed::Holds(q) => Judged {
+            lasts: false,
+            low: 0,
+            high: 0,
+            hint: number(at, q),
+        },
         Passed::Left(p, left) => {
             if len < last {
                 return Judged {
                     lasts: true,
                     low: 0,
                     high: 0,
+                    hint: 0,
                 };
             }
             interval(book, p, left)
         }
-    }
-}
-
-// Forbids the values from low up to below high.
-fn forbid(allowed: &mut [u8; 64], low: usize, high: usize)
-    requires { ⌜ (length (now allowed) ≡ 64) × (high ≤ 64) ⌝ }
-    ensures { λ _. ⌜ Forbids (now (allowed .entry)) low high (now (allowed .exit)) ⌝ }
-{
-    let mut v = low;
-    while v < high {
-        allowed[v] = 0;
-        v += 1;
     }
 }
 
@@ -197,12 +205,12 @@ fn after(book: &[u8], at: usize) -> usize
     at + 3 + 3 * count
 }
 
-// Scans `rules` rules from place `from` on, below the live prefix cur.
-pub fn scan(book: &[u8], from: usize, rules: usize, cur: Cursor) -> Scanned
-    requires { ⌜ Plain cur × Window (now book) (dead (rulesIn (now book))) (prefixOf cur) from rules × (dead (rulesIn (now book)) (prefixOf cur) ≡ false) ⌝ }
-    ensures { λ r. ⌜ Scans (now (book .entry)) (dead (rulesIn (now (book .entry)))) (prefixOf cur) r ⌝ }
+// Scans `rules` rules from place `from` on, below the live prefix cur; the values outside `set` are forbidden already.
+pub fn scan(book: &[u8], from: usize, rules: usize, cur: Cursor, set: u64) -> Scanned
+    requires { ⌜ Plain cur × Window (now book) (dead (rulesAt (now book) from rules)) (prefixOf cur) from rules × (dead (rulesAt (now book) from rules) (prefixOf cur) ≡ false) ⌝ }
+    ensures { λ r. ⌜ Scans (now (book .entry)) (dead (rulesAt (now (book .entry)) from rules)) (prefixOf cur) set r ⌝ }
 {
-    let mut allowed = [1u8; 64];
+    let mut allowed = set;
     let mut span = Span {
         at: from,
         first: 0,
@@ -212,7 +220,7 @@ pub fn scan(book: &[u8], from: usize, rules: usize, cur: Cursor) -> Scanned
     let mut i: usize = 0;
     while i < rules {
         let j = judge(book, at, cur);
-        forbid(&mut allowed, j.low, j.high);
+        allowed = without(allowed, j.low, j.high);
         span = widen(span, j.lasts, at, i);
         at = after(book, at);
         i += 1;

@@ -1,13 +1,17 @@
 // The walk over the visited prefixes of a page: it calls itself for the levels that remain, and stops where the steps or the rows are
 // full, since a visit is made only where there is room for it.
 use crate::cursor::Cursor;
+use crate::groups::fill;
+use crate::groups::look;
+use crate::groups::narrow;
+use crate::groups::sort;
 use crate::scan::Scanned;
-use crate::scan::scan;
 use crate::scan::wide;
+use crate::values::lacks;
 ghost use mathlib.Core.Path.{_≡_};
 ghost use mathlib.Core.Bool.{false};
 ghost use mathlib.Core.List.{[]};
-ghost use Prim.Native.Nat.{_+_, _*_, _≤_, _<_};
+ghost use Prim.Native.Nat.{_+_, _*_, _-_, _≤_, _<_};
 ghost use lib.ListN.{length, drop};
 ghost use Rattle.meaning.specs.Bytes.{rulesIn, rulesAt};
 ghost use Rattle.meaning.specs.Listing.{dead};
@@ -17,9 +21,15 @@ ghost use Rattle.listing.specs.Prefixes.{Plain, pushOf};
 ghost use Rattle.listing.specs.Standing.{AllStand};
 ghost use Rattle.listing.specs.Course.{part, fromOf, pastOf};
 ghost use Rattle.listing.specs.Steps.{S, walkOf, moveOf, inwardOf, runs, Fits, Ready};
-ghost use Rattle.listing.specs.Resuming.{ScansIf, WindowIf, Along};
+ghost use Rattle.listing.specs.Sizes.{Limited};
+ghost use Rattle.listing.specs.Turns.{Allows, skipOf, Skips};
+ghost use Rattle.listing.specs.Leaves.{leafRows, leafRoom, leafOf};
+ghost use Rattle.listing.specs.Ruled.{Kept};
+ghost use Rattle.listing.specs.Looking.{Open};
+ghost use Rattle.listing.specs.Sifting.{Narrowable, Narrowed};
+ghost use Rattle.listing.specs.Holding.{OpenIf, LooksIf};
+ghost use Rattle.listing.specs.Resuming.{Along};
 ghost use Rattle.listing.specs.Starting.{Resumes};
-ghost use Rattle.listing.specs.Windows.{Window};
 
 // What a page has done so far: the last prefix visited and whether it is dead, the rows written, the steps made.
 pub struct Walk {
@@ -105,26 +115,185 @@ fn inward(dead: bool, levels: usize) -> usize
     levels - 1
 }
 
-// The scan below q, if any level is gone into.
-fn scan_if(book: &[u8], at: usize, rules: usize, q: Cursor, levels: usize) -> Scanned
-    requires { ⌜ Plain q × WindowIf (now book) (dead (rulesIn (now book))) (prefixOf q) at rules levels ⌝ }
-    ensures { λ r. ⌜ ScansIf (now (book .entry)) (dead (rulesIn (now (book .entry)))) (prefixOf q) levels r ⌝ }
+// The look below q, if any level is gone into.
+fn look_if(
+    book: &[u8],
+    places: &[u32],
+    hints: &mut [u8],
+    starts: &[usize],
+    ends: [usize; 16],
+    at: usize,
+    rules: usize,
+    q: Cursor,
+    levels: usize,
+) -> Scanned
+    requires { ⌜ Plain q × (q .len + levels ≤ 16) × OpenIf (now book) (dead (rulesIn (now book))) (prefixOf q) (now places) (now starts) ends at rules (length (now hints)) levels ⌝ }
+    ensures { λ r. ⌜ LooksIf (now (book .entry)) (dead (rulesIn (now (book .entry)))) (prefixOf q) (now (places .entry)) (now (starts .entry)) ends levels r ⌝ }
 {
     if levels == 0 {
         return Scanned {
-            allowed: [0u8; 64],
+            allowed: 0,
             at,
             rules: 0,
         };
     }
-    scan(book, at, rules, q)
+    look(book, places, hints, starts, ends, at, rules, q)
 }
 
-// All that is visited below the live prefix cur, `levels` levels deep, from the value `from` on. s is the scan below cur.
+// The fronts below q, made shorter on the first three levels, if any level is gone into.
+fn narrow_if(
+    book: &[u8],
+    places: &mut [u32],
+    hints: &mut [u8],
+    starts: &[usize],
+    ends: [usize; 16],
+    q: Cursor,
+    l: usize,
+    levels: usize,
+) -> [usize; 16]
+    requires { ⌜ Plain q × (l ≤ 16) × Narrowable (now book) (now places) (now starts) ends (length (now hints)) ⌝ }
+    ensures { λ r. ⌜ Narrowed (now (book .entry)) (prefixOf q) (now (places .entry)) (now (starts .entry)) ends (now (places .exit)) r ⌝ }
+{
+    if levels == 0 {
+        return ends;
+    }
+    if 3 < q.len {
+        return ends;
+    }
+    narrow(book, places, hints, starts, ends, q, l)
+}
+
+// A walk, and the value of the next setting at which it goes on.
+pub struct Skipped {
+    pub walk: Walk,
+    pub v: u8,
+}
+
+// The walk once the values from `from` up to below v, all dead, are visited after cur, at so many steps.
+fn after_run(w: Walk, cur: Cursor, from: u8, v: u8, steps: usize) -> Skipped
+    requires { ⌜ (cur .len < 16) × (from ≤ v) × (steps ≡ w .steps + (v - from)) ⌝ }
+    ensures { λ r. ⌜ (r .walk ≡ skipOf w cur from v) × (r .v ≡ v) ⌝ }
+{
+    if v == from {
+        return Skipped { walk: w, v };
+    }
+    let last = push(cur, v - 1);
+    let rows = w.rows;
+    let walk = seen(last, true, rows, steps);
+    Skipped { walk, v }
+}
+
+// Visits the dead values from `from` on, up to the first that is not, or as far as the budget goes.
+fn skip(
+    book: &[u8],
+    sizes: &[u8],
+    w: Walk,
+    cur: Cursor,
+    set: u64,
+    from: u8,
+    fit: usize,
+    budget: usize,
+) -> Skipped
+    requires { ⌜ Plain cur × (cur .len < length (now sizes)) × Limited (now sizes) × Allows (dead (rulesIn (now book))) (prefixOf cur) set ⌝ }
+    ensures { λ r. ⌜ Skips (dead (rulesIn (now (book .entry)))) (now (sizes .entry)) cur fit budget w from (r .walk) (r .v) ⌝ }
+{
+    let rows = w.rows;
+    if fit <= rows {
+        return Skipped { walk: w, v: from };
+    }
+    let at = cur.len;
+    let n = sizes[at];
+    let mut steps = w.steps;
+    let mut v = from;
+    while v < n {
+        if budget <= steps {
+            return after_run(w, cur, from, v, steps);
+        }
+        let i = wide(v);
+        let dead = lacks(set, i);
+        if !dead {
+            return after_run(w, cur, from, v, steps);
+        }
+        v += 1;
+        steps += 1;
+    }
+    after_run(w, cur, from, v, steps)
+}
+
+// One value v of the last setting: a row, if it is not dead; how many rows there are then.
+fn leaf(room: &mut [u8], rows: usize, cur: Cursor, v: u8, dead: bool, l: usize) -> usize
+    requires { ⌜ Plain cur × (cur .len + 1 ≡ l) × (rows * l + cur .len < length (now room)) × (rows < length (now room)) ⌝ }
+    ensures { λ r. ⌜ (r ≡ leafRows dead rows) × (now (room .exit) ≡ leafRoom dead (now (room .entry)) (rows * l) (prefixOf cur) v) ⌝ }
+{
+    if dead {
+        return rows;
+    }
+    let at = rows * l;
+    let len = cur.len;
+    put_row(room, at, cur, len);
+    room[at + len] = v;
+    rows + 1
+}
+
+// The walk once the values from `from` up to below v are visited after cur, the last of them dead or not.
+fn leafed(w: Walk, cur: Cursor, from: u8, v: u8, dead: bool, rows: usize, steps: usize) -> Walk
+    requires { ⌜ (cur .len < 16) × (from ≤ v) ⌝ }
+    ensures { λ r. ⌜ r ≡ leafOf w cur from v dead rows steps ⌝ }
+{
+    if v == from {
+        return w;
+    }
+    let last = push(cur, v - 1);
+    seen(last, dead, rows, steps)
+}
+
+// All that is visited below the live prefix cur of all settings but one, from the value `from` on; `set` is what may follow it.
+fn leaves(
+    book: &[u8],
+    sizes: &[u8],
+    room: &mut [u8],
+    w: Walk,
+    cur: Cursor,
+    set: u64,
+    from: u8,
+    fit: usize,
+    budget: usize,
+) -> Walk
+    requires { ⌜ Ready (now sizes) (now room) cur 1 fit × (cur .len + 1 ≡ length (now sizes)) × Allows (dead (rulesIn (now book))) (prefixOf cur) set ⌝ }
+    ensures { λ r. ⌜ _≡_ {A = S} (r, now (room .exit)) (runs (dead (rulesIn (now (book .entry)))) (length (now (sizes .entry))) fit budget (fromOf (dead (rulesIn (now (book .entry)))) (part (now (sizes .entry)) (cur .len) 1) (prefixOf cur) from) (w, now (room .entry))) ⌝ }
+{
+    let at = cur.len;
+    let n = sizes[at];
+    let l = sizes.len();
+    let mut rows = w.rows;
+    let mut steps = w.steps;
+    let mut dead = w.dead;
+    let mut v = from;
+    while v < n {
+        if fit <= rows {
+            return leafed(w, cur, from, v, dead, rows, steps);
+        }
+        if budget <= steps {
+            return leafed(w, cur, from, v, dead, rows, steps);
+        }
+        let i = wide(v);
+        dead = lacks(set, i);
+        rows = leaf(room, rows, cur, v, dead, l);
+        steps += 1;
+        v += 1;
+    }
+    leafed(w, cur, from, v, dead, rows, steps)
+}
+
+// All that is visited below the live prefix cur, `levels` levels deep, from the value `from` on. s is the look below cur.
 fn below(
     book: &[u8],
     sizes: &[u8],
     room: &mut [u8],
+    places: &mut [u32],
+    hints: &mut [u8],
+    starts: &[usize],
+    ends: [usize; 16],
     w: Walk,
     cur: Cursor,
     s: Scanned,
@@ -133,21 +302,26 @@ fn below(
     fit: usize,
     budget: usize,
 ) -> Walk
-    requires { ⌜ Ready (now sizes) (now room) cur levels fit × ScansIf (now book) (dead (rulesIn (now book))) (prefixOf cur) levels s ⌝ }
-    ensures { λ r. ⌜ _≡_ {A = S} (r, now (room .exit)) (runs (dead (rulesIn (now (book .entry)))) (length (now (sizes .entry))) fit budget (fromOf (dead (rulesIn (now (book .entry)))) (part (now (sizes .entry)) (cur .len) levels) (prefixOf cur) from) (w, now (room .entry))) ⌝ }
+    requires { ⌜ Ready (now sizes) (now room) cur levels fit × Narrowable (now book) (now places) (now starts) ends (length (now hints)) × LooksIf (now book) (dead (rulesIn (now book))) (prefixOf cur) (now places) (now starts) ends levels s ⌝ }
+    ensures { λ r. ⌜ (_≡_ {A = S} (r, now (room .exit)) (runs (dead (rulesIn (now (book .entry)))) (length (now (sizes .entry))) fit budget (fromOf (dead (rulesIn (now (book .entry)))) (part (now (sizes .entry)) (cur .len) levels) (prefixOf cur) from) (w, now (room .entry)))) × Kept (now (starts .entry)) ends (now (places .entry)) (now (places .exit)) ⌝ }
 {
     if levels == 0 {
         return w;
     }
-    let at = cur.len;
-    let n = sizes[at];
     let allowed = s.allowed;
-    let mut walk = w;
-    let mut v = from;
+    let at = cur.len;
+    let l = sizes.len();
+    if at + 1 == l {
+        return leaves(book, sizes, room, w, cur, allowed, from, fit, budget);
+    }
+    let n = sizes[at];
+    let first = skip(book, sizes, w, cur, allowed, from, fit, budget);
+    let mut walk = first.walk;
+    let mut v = first.v;
     while v < n {
-        let rows = walk.rows;
+        let filled = walk.rows;
         let steps = walk.steps;
-        if fit <= rows {
+        if fit <= filled {
             return walk;
         }
         if budget <= steps {
@@ -155,22 +329,54 @@ fn below(
         }
         let next = push(cur, v);
         let i = wide(v);
-        let dead = allowed[i] == 0;
-        let done = visit(room, walk, next, dead, sizes.len(), fit, budget);
+        let dead = lacks(allowed, i);
+        let done = visit(room, walk, next, dead, l, fit, budget);
         let deep = inward(dead, levels);
-        let more = scan_if(book, s.at, s.rules, next, deep);
-        walk = below(book, sizes, room, done, next, more, 0, deep, fit, budget);
-        v += 1;
+        let fronts = narrow_if(book, places, hints, starts, ends, next, l, deep);
+        let more = look_if(
+            book,
+            places,
+            hints,
+            starts,
+            fronts,
+            s.at,
+            s.rules,
+            next,
+            deep,
+        );
+        let under = below(
+            book,
+            sizes,
+            room,
+            places,
+            hints,
+            starts,
+            fronts,
+            done,
+            next,
+            more,
+            0,
+            deep,
+            fit,
+            budget,
+        );
+        let on = skip(book, sizes, under, cur, allowed, v + 1, fit, budget);
+        walk = on.walk;
+        v = on.v;
     }
     walk
 }
 
 // All that is visited below the live prefix cur and after c, of which cur is the beginning: below c's own next value, then from the
-// value after it on. The rules that matter below cur are `rules` from place `at` on.
+// value after it on. What matters below cur: the fronts, and `rules` rules from place `at` on.
 fn resume(
     book: &[u8],
     sizes: &[u8],
     room: &mut [u8],
+    places: &mut [u32],
+    hints: &mut [u8],
+    starts: &[usize],
+    ends: [usize; 16],
     w: Walk,
     c: Cursor,
     cur: Cursor,
@@ -180,26 +386,69 @@ fn resume(
     fit: usize,
     budget: usize,
 ) -> Walk
-    requires { ⌜ Ready (now sizes) (now room) cur levels fit × Along (now sizes) c cur levels × Window (now book) (dead (rulesIn (now book))) (prefixOf cur) at rules × (dead (rulesIn (now book)) (prefixOf cur) ≡ false) ⌝ }
-    ensures { λ r. ⌜ _≡_ {A = S} (r, now (room .exit)) (runs (dead (rulesIn (now (book .entry)))) (length (now (sizes .entry))) fit budget (pastOf (dead (rulesIn (now (book .entry)))) (part (now (sizes .entry)) (cur .len) levels) (prefixOf cur) (drop (cur .len) (prefixOf c))) (w, now (room .entry))) ⌝ }
+    requires { ⌜ Ready (now sizes) (now room) cur levels fit × Along (now sizes) c cur levels × Narrowable (now book) (now places) (now starts) ends (length (now hints)) × Open (now book) (dead (rulesIn (now book))) (prefixOf cur) (now places) (now starts) ends at rules (length (now hints)) ⌝ }
+    ensures { λ r. ⌜ (_≡_ {A = S} (r, now (room .exit)) (runs (dead (rulesIn (now (book .entry)))) (length (now (sizes .entry))) fit budget (pastOf (dead (rulesIn (now (book .entry)))) (part (now (sizes .entry)) (cur .len) levels) (prefixOf cur) (drop (cur .len) (prefixOf c))) (w, now (room .entry)))) × Kept (now (starts .entry)) ends (now (places .entry)) (now (places .exit)) ⌝ }
 {
-    let s = scan_if(book, at, rules, cur, levels);
+    let s = look_if(book, places, hints, starts, ends, at, rules, cur, levels);
     let len = cur.len;
     if len == c.len {
-        return below(book, sizes, room, w, cur, s, 0, levels, fit, budget);
+        return below(
+            book,
+            sizes,
+            room,
+            places,
+            hints,
+            starts,
+            ends,
+            w,
+            cur,
+            s,
+            0,
+            levels,
+            fit,
+            budget,
+        );
     }
     let values = c.values;
     let v = values[len];
     let next = push(cur, v);
     let i = wide(v);
-    let allowed = s.allowed;
-    if allowed[i] == 0 {
-        return below(book, sizes, room, w, cur, s, v + 1, levels, fit, budget);
+    if lacks(s.allowed, i) {
+        return below(
+            book,
+            sizes,
+            room,
+            places,
+            hints,
+            starts,
+            ends,
+            w,
+            cur,
+            s,
+            v + 1,
+            levels,
+            fit,
+            budget,
+        );
     }
+    let fronts = narrow_if(
+        book,
+        places,
+        hints,
+        starts,
+        ends,
+        next,
+        sizes.len(),
+        levels - 1,
+    );
     let walk = resume(
         book,
         sizes,
         room,
+        places,
+        hints,
+        starts,
+        fronts,
         w,
         c,
         next,
@@ -209,7 +458,23 @@ fn resume(
         fit,
         budget,
     );
-    below(book, sizes, room, walk, cur, s, v + 1, levels, fit, budget)
+    let rest = v + 1;
+    below(
+        book,
+        sizes,
+        room,
+        places,
+        hints,
+        starts,
+        ends,
+        walk,
+        cur,
+        s,
+        rest,
+        levels,
+        fit,
+        budget,
+    )
 }
 
 // Is there a rule without literals, so that even the empty prefix is dead?
@@ -228,6 +493,57 @@ fn hopeless(book: &[u8], rules: usize) -> bool
         i += 1;
     }
     false
+}
+
+// The smaller of two numbers.
+fn least(a: usize, b: usize) -> usize
+    ensures { λ r. ⌜ (r ≤ a) × (r ≤ b) ⌝ }
+{
+    if a < b {
+        return a;
+    }
+    b
+}
+
+// All that is visited after c, where the empty prefix is live: the first rules in groups, the others in a run behind them.
+fn begin(
+    book: &[u8],
+    rules: usize,
+    sizes: &[u8],
+    room: &mut [u8],
+    w: Walk,
+    c: Cursor,
+    fit: usize,
+    budget: usize,
+) -> Walk
+    requires { ⌜ Resumes (now book) rules (now sizes) (now room) c fit × (dead (rulesAt (now book) 7 rules) [] ≡ false) ⌝ }
+    ensures { λ r. ⌜ _≡_ {A = S} (r, now (room .exit)) (runs (dead (rulesIn (now (book .entry)))) (length (now (sizes .entry))) fit budget (pastOf (dead (rulesIn (now (book .entry)))) (now (sizes .entry)) [] (prefixOf c)) (w, now (room .entry))) ⌝ }
+{
+    let mut places = [0u32; 8192];
+    let mut hints = [0u8; 8192];
+    let n = least(rules, 8192);
+    let at = fill(book, n, &mut places);
+    let groups = sort(book, n, &mut places, &mut hints, at);
+    let starts = groups.starts;
+    let ends = groups.ends;
+    let root = Cursor::beginning();
+    resume(
+        book,
+        sizes,
+        room,
+        &mut places,
+        &mut hints,
+        &starts,
+        ends,
+        w,
+        c,
+        root,
+        at,
+        rules - n,
+        sizes.len(),
+        fit,
+        budget,
+    )
 }
 
 // All that is visited after c, from a page's start on.
@@ -252,18 +568,5 @@ pub fn start(
     if hopeless(book, rules) {
         return w;
     }
-    let root = Cursor::beginning();
-    resume(
-        book,
-        sizes,
-        room,
-        w,
-        c,
-        root,
-        7,
-        rules,
-        sizes.len(),
-        fit,
-        budget,
-    )
+    begin(book, rules, sizes, room, w, c, fit, budget)
 }

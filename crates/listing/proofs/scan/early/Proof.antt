@@ -43,7 +43,9 @@ holds-requires : tie.Need-holds-requires Inv-loop μ-loop
 holds-requires c κs = search needs
 
 returns-2 : tie.Need-returns-2 Inv-loop μ-loop
-returns-2 c = search (passing-holds, arith)
+returns-2 c =
+    let s = c .before .before .before .before .before .before .before .before .before .before .before in
+    passing-holds _ _ (s .pre .0) _ _ _ _ (c .before .before .before .before .before .before .before .before .loop .inv) (c .before .before .before .before .before .before .before .loop-test .taken) _ (c .before .before .before .before .before .wide .ensures .0) (c .before .before .before .before .if1 .left) _ (c .before .holds .ensures) (c .if2 .taken)
 
 add-at : tie.Need-add-at Inv-loop μ-loop
 add-at c = search needs

@@ -1,7 +1,6 @@
--- `judge`: each way out is a lemma of specs/Judging.
-use borrow.Author.Needs.{needs}
 use native.Mathlib.Omega.{arith}
 use Rattle.listing.specs.Judging.{judges-empty, judges-past, judges-holds, judged-inside, judges-lasts, judges-interval}
+use borrow.Author.Needs.{needs}
 use Rattle.listing.proofs.scan.judge.Statement.{statement}
 use Rattle.listing.proofs.scan.judge.Tie as tie
 
@@ -38,8 +37,11 @@ add-early c = search needs
 early-requires : tie.Need-early-requires
 early-requires c κs = search needs
 
-enum-told : tie.Need-enum-told
-enum-told c = search needs
+enum-known-q : tie.Need-enum-known-q
+enum-known-q c = search needs
+
+number-requires : tie.Need-number-requires
+number-requires c κs = search needs
 
 enum-known-p : tie.Need-enum-known-p
 enum-known-p c = search needs
@@ -74,7 +76,8 @@ judge-spec =
     returns-2
     add-early
     early-requires
-    enum-told
+    enum-known-q
+    number-requires
     enum-known-p
     returns-3
     interval-requires

@@ -8,30 +8,30 @@ use Rattle.listing.proofs.scan.scan.Statement.{statement}
 use Rattle.listing.proofs.scan.scan.Tie as tie
 
 abbrev Inv-loop : tie.InvT-loop
-Inv-loop book from rules cur allowed₀ span₀ at₀ i₀ allowed span at i = Scanning book from (prefixOf cur) rules allowed span at i
+Inv-loop book from rules cur set allowed₀ span₀ at₀ i₀ allowed span at i = Scanning book from (prefixOf cur) set rules allowed span at i
 
 abbrev μ-loop : tie.MeasureT-loop
-μ-loop book from rules cur allowed₀ span₀ at₀ i₀ allowed span at i = rules - i
+μ-loop book from rules cur set allowed₀ span₀ at₀ i₀ allowed span at i = rules - i
 
 loop-holds : tie.Need-loop-holds Inv-loop μ-loop
-loop-holds c = scanning-start _ _ _ _
+loop-holds c = scanning-start _ _ _ _ _
 
 judge-requires : tie.Need-judge-requires Inv-loop μ-loop
 judge-requires c κs =
     let s = c .before .before .before in
-    let n = scanning-next _ _ _ _ _ (s .pre .1) (s .pre .2) _ _ _ _ (c .before .loop .inv) (c .loop-test .taken) in
+    let n = scanning-next _ _ _ _ _ _ (s .pre .1) (s .pre .2) _ _ _ _ (c .before .loop .inv) (c .loop-test .taken) in
     (s .pre .0, n .0, n .1)
 
-forbid-requires : tie.Need-forbid-requires Inv-loop μ-loop
-forbid-requires c κs = (c .before .before .before .loop .inv .long, c .before .judge .ensures .small)
+without-requires : tie.Need-without-requires Inv-loop μ-loop
+without-requires c κs = c .judge .ensures .small
 
 widen-requires : tie.Need-widen-requires Inv-loop μ-loop
-widen-requires c κs = omega (arith, c .before .before .before .before .before .before .pre .1 .few, c .before .before .before .loop-test .taken)
+widen-requires c κs = omega (arith, c .before .before .before .before .before .pre .1 .few, c .before .before .loop-test .taken)
 
 after-requires : tie.Need-after-requires Inv-loop μ-loop
 after-requires c κs =
-    let s = c .before .before .before .before .before .before .before in
-    scanning-next _ _ _ _ _ (s .pre .1) (s .pre .2) _ _ _ _ (c .before .before .before .before .before .loop .inv) (c .before .before .before .before .loop-test .taken) .0 .inside
+    let s = c .before .before .before .before .before .before in
+    scanning-next _ _ _ _ _ _ (s .pre .1) (s .pre .2) _ _ _ _ (c .before .before .before .before .loop .inv) (c .before .before .before .loop-test .taken) .0 .inside
 
 add-i : tie.Need-add-i Inv-loop μ-loop
 add-i c = search needs
@@ -41,13 +41,13 @@ loop-less c = search needs
 
 loop-again : tie.Need-loop-again Inv-loop μ-loop
 loop-again c =
-    scanning-on _ _ _ _ _ _ _ _ (c .before .before .before .before .before .before .loop .inv) (c .before .before .before .before .before .loop-test .taken) _ (c .before .before .before .before .judge .ensures) _ (c .before .before .forbid .ensures) _ (c .before .widen .ensures) _ (c .after .ensures)
+    scanning-on _ _ _ _ _ _ _ _ _ (c .before .before .before .before .before .loop .inv) (c .before .before .before .before .loop-test .taken) _ (c .before .before .before .judge .ensures) _ (c .before .before .without .ensures) _ (c .before .widen .ensures) _ (c .after .ensures)
 
-sub-t14 : tie.Need-sub-t14 Inv-loop μ-loop
-sub-t14 c = c .before .before .loop .inv .spans .ordered .0
+sub-t12 : tie.Need-sub-t12 Inv-loop μ-loop
+sub-t12 c = c .before .before .loop .inv .spans .ordered .0
 
 returns : tie.Need-returns Inv-loop μ-loop
-returns c = scanning-end _ _ _ _ _ (c .before .before .before .before .pre .1) _ _ _ _ (c .before .before .loop .inv) (c .before .loop-test .left)
+returns c = scanning-end _ _ _ _ _ _ (c .before .before .before .before .pre .1) _ _ _ _ (c .before .before .loop .inv) (c .before .loop-test .left)
 
 pub scan-spec : {M : Type 1} → statement M
 scan-spec =
@@ -57,11 +57,11 @@ scan-spec =
     μ-loop
     loop-holds
     judge-requires
-    forbid-requires
+    without-requires
     widen-requires
     after-requires
     add-i
     loop-less
     loop-again
-    sub-t14
+    sub-t12
     returns)

@@ -1,0 +1,42 @@
+use native.Mathlib.Omega.{arith}
+use Rattle.listing.specs.Leaves.{leaf-dead, leaf-live}
+use borrow.Author.Needs.{needs}
+use Rattle.listing.proofs.walk.leaf.Statement.{statement}
+use Rattle.listing.proofs.walk.leaf.Tie as tie
+
+returns : tie.Need-returns
+returns c = leaf-dead _ _ _ _ _ _ (c .if1 .taken)
+
+mul-at : tie.Need-mul-at
+mul-at c = search needs
+
+put-row-requires : tie.Need-put-row-requires
+put-row-requires c κs = search needs
+
+add-room : tie.Need-add-room
+add-room c = search needs
+
+slice-write-room : tie.Need-slice-write-room
+slice-write-room c = search needs
+
+add-result : tie.Need-add-result
+add-result c = omega (arith, c .before .before .before .before .before .before .pre .3)
+
+same-length : tie.Need-same-length
+same-length c = search needs
+
+returns-2 : tie.Need-returns-2
+returns-2 c = let s = c .before .before .before .before .before .before in leaf-live _ _ _ _ _ _ (s .pre .0) (s .pre .2) (c .before .before .before .before .if1 .left) _ (c .before .before .put-row .ensures)
+
+pub leaf-spec : {M : Type 1} → statement M
+leaf-spec =
+    tie.close
+    (tie.spec
+    returns
+    mul-at
+    put-row-requires
+    add-room
+    slice-write-room
+    add-result
+    same-length
+    returns-2)

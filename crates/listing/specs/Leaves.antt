@@ -1,0 +1,109 @@
+-- Leaves: the last level. Its values are visited in one loop that counts; the cursor of the last one is made at the end.
+use Prim.Native.Nat.{ℕ, suc, _+_, _*_, _-_, _≤_, _<_}
+use native.Mathlib.Nat.{mul-le-mul-left, mul-le-mul-right}
+use native.Mathlib.Numerals.{add-one}
+use native.Mathlib.Omega.{arith}
+use mathlib.Core.Path.{_≡_, refl, ap, _∙_}
+use mathlib.Core.Bool.{Bool, true, false, cond}
+use mathlib.Core.Logic.{_⊎_, inl, inr}
+use mathlib.Core.List.{List, [], _∷_, _++_}
+use lib.Dec.{eqb}
+use lib.ListN.{length, getD, set}
+use lib.Seq.{set-split}
+use borrow.Author.Tests.{eq-eqb, ne-eqb}
+use Rattle.meaning.specs.Rows.{Row, Sizes}
+use Rattle.books.specs.Put.{putAt, putAt-putAt, putAt-length}
+use Rattle.listing.specs.declared.cursor.Cursor.{Cursor}
+use Rattle.listing.specs.declared.walk.Walk.{Walk}
+use Rattle.listing.specs.Cursors.{prefixOf}
+use Rattle.listing.specs.Prefixes.{Plain, plain-length, pushOf, push-prefix}
+use Rattle.listing.specs.Values.{forbidden}
+use Rattle.listing.specs.Steps.{S, walkOf, moveOf, Ready}
+use Rattle.listing.specs.Turns.{Going, going-start, going-rows, going-steps, going-end, wholeOf, Allows, leaf-on}
+
+-- ---- one leaf: a row, if it is not dead
+
+unfoldable pub leafRows : Bool → ℕ → ℕ
+leafRows b rows = cond b rows (rows + 1)
+
+unfoldable pub leafRoom : Bool → List ℕ → ℕ → Row → ℕ → List ℕ
+leafRoom b o at x v = cond b o (putAt o at (x ++ (v ∷ [])))
+
+set-put : (o : List ℕ) (k v : ℕ) → k < length o → set o k v ≡ putAt o k (v ∷ [])
+unfolding putAt
+set-put o k v h = set-split o k v h ∙ rw (add-one k)
+
+pub leaf-dead : (b : Bool) (o : List ℕ) (at : ℕ) (x : Row) (v rows : ℕ) → b ≡ true → (rows ≡ leafRows b rows) × (o ≡ leafRoom b o at x v)
+unfolding leafRows leafRoom
+leaf-dead b o at x v rows e = rw e (refl, refl)
+
+pub leaf-live : (b : Bool) (o : List ℕ) (at : ℕ) (c : Cursor) (v rows : ℕ) → Plain c → at + c .len < length o → b ≡ false → (o₁ : List ℕ) → o₁ ≡ putAt o at (prefixOf c)
+    → (rows + 1 ≡ leafRows b rows) × (set o₁ (at + c .len) v ≡ leafRoom b o at (prefixOf c) v)
+unfolding leafRows leafRoom
+leaf-live b o at c v rows p h e o₁ q =
+    let l = plain-length c p in
+    let n : length o₁ ≡ length o = ap length q ∙ putAt-length o at (prefixOf c) (omega arith) in
+    let k : at + c .len ≡ at + length (prefixOf c) = omega arith in
+    rw e (refl, set-put o₁ (at + c .len) v (omega arith) ∙ rw (q, k) (putAt-putAt o at (prefixOf c) (v ∷ []) (omega arith)))
+
+-- ---- the loop
+
+abbrev pub leafOf : Walk → Cursor → ℕ → ℕ → Bool → ℕ → ℕ → Walk
+leafOf w cur v u f rows steps = cond (eqb u v) w (walkOf (pushOf cur (u - 1)) f rows steps)
+
+pub leafed-none : (cur : Cursor) (w : Walk) (v u : ℕ) (f : Bool) (rows steps : ℕ) → u ≡ v → w ≡ leafOf w cur v u f rows steps
+leafed-none cur w v u f rows steps e = rw (eq-eqb u v e)
+
+pub leafed-some : (cur : Cursor) (w : Walk) (v u : ℕ) (f : Bool) (rows steps : ℕ) → (u ≡ v → ⊥) → (q : Cursor) → q ≡ pushOf cur (u - 1) → (r : Walk) → r ≡ walkOf q f rows steps
+    → r ≡ leafOf w cur v u f rows steps
+leafed-some cur w v u f rows steps n q e r g = g ∙ rw (ne-eqb u v n, e)
+
+module _ (d : Row → Bool) (ns : Sizes) (cur : Cursor) (fit budget : ℕ) (w : Walk) (v : ℕ) (o₀ : List ℕ) where
+  pub record Leafing (o : List ℕ) (f : Bool) (rows steps u : ℕ) : Type 0 where
+    pub ahead : v ≤ u
+    pub rows-are : leafOf w cur v u f rows steps .rows ≡ rows
+    pub steps-are : leafOf w cur v u f rows steps .steps ≡ steps
+    pub going : Going d ns cur 1 fit budget v w o₀ o (leafOf w cur v u f rows steps) u
+
+  pub leafing-start : Leafing o₀ (w .dead) (w .rows) (w .steps) v
+  leafing-start =
+      record { ahead = omega arith; rows-are = rw (eq-eqb v v refl); steps-are = rw (eq-eqb v v refl); going = rw (eq-eqb v v refl) (going-start d ns cur 1 fit budget v w o₀ (λ z. omega arith)) }
+
+  module _ (y : Ready ns o₀ cur 1 fit) (full : cur .len + 1 ≡ length ns) (o : List ℕ) (f : Bool) (rows steps u : ℕ) (g : Leafing o f rows steps u) where
+    pub leafing-room : rows < fit → rows * length ns + cur .len < length o
+    leafing-room h = let k : suc rows ≤ fit = h in omega (arith, y .cells, g .going .long, mul-le-mul-right (length ns) k)
+
+    pub leafing-rows : rows < fit → rows < length o
+    leafing-rows h =
+        let some : 1 ≤ length ns = omega arith in
+        omega (arith, leafing-room h, mul-le-mul-left rows some)
+
+    pub leafing-on : u < getD ns (cur .len) 0 → rows < fit → steps < budget → (set : ℕ) → Allows d (prefixOf cur) set → (i : ℕ) → i ≡ u → (b : Bool) → b ≡ forbidden set i
+        → (r : ℕ) (o₁ : List ℕ) → (r ≡ leafRows b rows) × (o₁ ≡ leafRoom b o (rows * length ns) (prefixOf cur) u) → length o₁ ≡ length o
+        → Leafing o₁ b r (steps + 1) (u + 1)
+    unfolding leafRows leafRoom
+    leafing-on h i j set a k e b q r o₁ m lo = record {
+      ahead = omega (arith, g .ahead);
+      rows-are = ap (λ (t : Walk). t .rows) same;
+      steps-are = ap (λ (t : Walk). t .steps) same;
+      going = rw same (leaf-on d ns cur fit budget v w o₀ o (leafOf w cur v u f rows steps) u y (g .going) (pushOf cur u) refl h set a (omega (arith, g .rows-are)) (omega (arith, g .steps-are)) k e b q (walkOf (pushOf cur u) b r (steps + 1)) o₁ (moved b m) lo);
+    }
+      where
+        same : leafOf w cur v (u + 1) b r (steps + 1) ≡ walkOf (pushOf cur u) b r (steps + 1)
+        same = let n : u + 1 - 1 ≡ u = omega arith in rw (ne-eqb (u + 1) v (λ c. omega (arith, g .ahead)), n)
+
+        moved : (c : Bool) → (r ≡ leafRows c rows) × (o₁ ≡ leafRoom c o (rows * length ns) (prefixOf cur) u)
+            → _≡_ {A = S} (walkOf (pushOf cur u) c r (steps + 1), o₁) (moveOf (length ns) c (pushOf cur u) (leafOf w cur v u f rows steps, o))
+        moved true z = rw (z .0, z .1, g .rows-are, g .steps-are)
+        moved false z = rw (z .0, z .1, eq-eqb (cur .len + 1) (length ns) full, g .rows-are, g .steps-are, push-prefix cur u (y .plain) (omega (arith, y .deep, y .limited .short)))
+
+pub leafing-end : (d : Row → Bool) (ns : Sizes) (cur : Cursor) (fit budget : ℕ) (w : Walk) (v : ℕ) (o₀ o : List ℕ) (f : Bool) (rows steps u : ℕ)
+    → (g : Leafing d ns cur fit budget w v o₀ o f rows steps u) → (r : Walk) → r ≡ leafOf w cur v u f rows steps
+    → (((fit ≤ rows) ⊎ (budget ≤ steps)) ⊎ (getD ns (cur .len) 0 ≤ u)) → _≡_ {A = S} (r, o) (wholeOf d ns cur 1 fit budget v (w, o₀))
+leafing-end d ns cur fit budget w v o₀ o f rows steps u g r e c = rw e (elim c [
+  | inl t ↦ elim t [
+    | inl h ↦ going-rows d ns cur 1 fit budget v w o₀ o (leafOf w cur v u f rows steps) u (g .going) (omega (arith, g .rows-are))
+    | inr h ↦ going-steps d ns cur 1 fit budget v w o₀ o (leafOf w cur v u f rows steps) u (g .going) (omega (arith, g .steps-are))
+  ]
+  | inr h ↦ going-end d ns cur 1 fit budget v w o₀ o (leafOf w cur v u f rows steps) u (g .going) h
+])
