@@ -5,7 +5,7 @@ use mathlib.Core.Path.{_≡_, refl, sym, ap, _∙_}
 use mathlib.Core.List.{List, _∷_, _++_}
 use lib.ListN.{length, getD, drop}
 use Rattle.meaning.specs.Rules.{Rule}
-use Rattle.meaning.specs.Literals.{one-byte, three-bytes}
+use Rattle.meaning.proofs.Literals.{one-byte, three-bytes}
 use Rattle.meaning.specs.Bytes.{encodeRules, encodeEnd, encode, WellFormed, endAt, rulesAt, wordAt, rulesIn}
 use Rattle.books.specs.declared.Reading.the-variants.{Book}
 use Rattle.books.specs.Format.{readOf}

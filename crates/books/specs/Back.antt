@@ -5,7 +5,7 @@ use mathlib.Core.Path.{_≡_, sym, ap, _∙_}
 use mathlib.Core.List.{List, _++_, append-assoc}
 use lib.ListN.{length, getD, drop}
 use Rattle.meaning.specs.Rules.{sign, bound, AllGood}
-use Rattle.meaning.specs.Literals.{literals-length, literal-parts, three-bytes}
+use Rattle.meaning.proofs.Literals.{literals-length, literal-parts, three-bytes}
 use Rattle.meaning.specs.Bytes.{encodeLiterals, encodeRule, encodeRules, literalsAt, ruleAt, endAt, rulesAt, placeAt}
 use Rattle.books.specs.declared.Got.the-variants.{At}
 use Rattle.books.specs.Format.{markOf, fieldOf, literalOf, literalsOf, bodyOf, ruleOf, rulesOf}

@@ -8,7 +8,7 @@ use mathlib.Core.List.{List, [], _∷_}
 use lib.Dec.{T, ltb}
 use lib.ListN.{length, getD}
 use borrow.Author.Tests.{ltb-true, ltb-false, lt-ltb, le-ltb}
-use Rattle.meaning.specs.Tests.{case, is, isnt, yes-of}
+use Rattle.meaning.proofs.Tests.{case, is, isnt, yes-of}
 use Rattle.meaning.specs.Rows.{Row, Sizes, at, within}
 use Rattle.meaning.specs.Rules.{Rule, met, allMet}
 

@@ -6,7 +6,7 @@ use mathlib.Core.List.{List}
 use lib.ListN.{length, take, replicate}
 use borrow.Author.Tests.{lt-ltb, le-ltb}
 use Rattle.meaning.specs.Rows.{alike}
-use Rattle.meaning.specs.Alike.{alike-length, alike-at, alike-lent, alike-cut}
+use Rattle.meaning.proofs.Alike.{alike-length, alike-at, alike-lent, alike-cut}
 use Rattle.books.specs.declared.Fault.{Fault}
 use Rattle.books.specs.declared.Fault.the-variants.{Trailing}
 use Rattle.books.specs.declared.Got.{Got}

@@ -9,9 +9,9 @@ use lib.ListN.{length, getD, take, drop, drop-of-length-le}
 use lib.Seq.{take-at}
 use Rattle.meaning.specs.Rows.{Sizes, alike}
 use Rattle.meaning.specs.Rules.{setting, bound, Fits, AllFit, Good, AllGood}
-use Rattle.meaning.specs.Literals.{two-bytes}
+use Rattle.meaning.proofs.Literals.{two-bytes}
 use Rattle.meaning.specs.Bytes.{literal, literalAt, literalsAt, ruleAt, endAt, rulesAt, placeAt, encodeRule, encodeRules, encodeEnd}
-use Rattle.meaning.specs.Encoded.{rule-stands}
+use Rattle.meaning.proofs.Encoded.{rule-stands}
 use Rattle.books.specs.declared.Reading.the-variants.{Book}
 use Rattle.books.specs.Format.{readOf}
 use Rattle.books.specs.Fields.{mark-tells}

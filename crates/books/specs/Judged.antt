@@ -9,7 +9,7 @@ use lib.ListN.{length, getD, take, drop, replicate}
 use lib.Seq.{drop-cons}
 use borrow.Author.Tests.{lt-ltb, le-ltb, eq-eqb, ne-eqb}
 use Rattle.meaning.specs.Rows.{Row, Sizes, alike, at}
-use Rattle.meaning.specs.Alike.{alike-lent}
+use Rattle.meaning.proofs.Alike.{alike-lent}
 use Rattle.meaning.specs.Bytes.{rulesAt}
 use Rattle.books.specs.declared.Fault.{Fault}
 use Rattle.books.specs.declared.Reading.{Reading}

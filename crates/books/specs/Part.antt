@@ -10,7 +10,7 @@ use denote.Ref.{RefT, ptr, now}
 use lib.Dec.{ltb}
 use lib.ListN.{length, getD, take, drop, length-take, length-drop}
 use borrow.Author.Tests.{lt-ltb, le-ltb}
-use Rattle.meaning.specs.Tests.{lt-or-le}
+use Rattle.meaning.proofs.Tests.{lt-or-le}
 use Rattle.meaning.specs.Rows.{Sizes, alike}
 use Rattle.meaning.specs.Bytes.{encodeRule, ruleAt, endAt, rulesAt, placeAt, rulesIn}
 use Rattle.books.specs.declared.Fault.{Fault}

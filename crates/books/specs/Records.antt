@@ -6,7 +6,7 @@ use mathlib.Core.List.{List, [], _∷_}
 use lib.ListN.{length}
 use Rattle.meaning.specs.Rules.{Rule}
 use Rattle.meaning.specs.Bytes.{encodeLiterals, encodeRule, encodeHead}
-use Rattle.meaning.specs.Encoded.{encodeLiterals-length}
+use Rattle.meaning.proofs.Encoded.{encodeLiterals-length}
 use Rattle.books.specs.Put.{putAt, putIn, putAt-putAt, putIn-fits, putIn-not}
 
 -- what a writer of a record tells: what the room holds then, and the place after the record, whether or not it fits

@@ -11,7 +11,7 @@ use Rattle.books.specs.declared.Fault.the-variants.{Idle, Family}
 use Rattle.books.specs.declared.Got.{Got}
 use Rattle.books.specs.declared.Got.the-variants.{At, No}
 use Rattle.meaning.specs.Rules.{idle, inFamily, Good}
-use Rattle.meaning.specs.Literals.{literals-length}
+use Rattle.meaning.proofs.Literals.{literals-length}
 use Rattle.meaning.specs.Bytes.{literalsAt, ruleAt, endAt}
 use Rattle.books.specs.Format.{markOf, fieldOf, literalsOf, bodyOf, ruleOf, rulesOf, _>>=_}
 use Rattle.books.specs.Fields.{no-number, mark-tells, field-tells, MarkGot, FieldGot}

@@ -9,7 +9,7 @@ use mathlib.Core.List.{List, [], _∷_}
 use lib.Dec.{ltb}
 use lib.ListN.{length, getD}
 use Rattle.meaning.specs.Rules.{Rule, atMost, atLeast, low, high, scarce, scarces, horn, bijunctive, inFamily}
-use Rattle.meaning.specs.Literals.{literals-length}
+use Rattle.meaning.proofs.Literals.{literals-length}
 use Rattle.meaning.specs.Bytes.{literal, literalAt, literalsAt}
 
 -- ---- one literal: 1 if it is negative, else 0

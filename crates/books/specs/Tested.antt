@@ -8,12 +8,12 @@ use mathlib.Core.List.{List, []}
 use lib.Dec.{T, ltb, eqb}
 use lib.ListN.{length, getD}
 use borrow.Author.Tests.{lt-ltb, le-ltb, eq-eqb, ne-eqb}
-use Rattle.meaning.specs.Tests.{lt-or-le}
+use Rattle.meaning.proofs.Tests.{lt-or-le}
 use Rattle.meaning.specs.Rows.{Row, Sizes, alike, within}
-use Rattle.meaning.specs.Alike.{alike-length}
+use Rattle.meaning.proofs.Alike.{alike-length}
 use Rattle.meaning.specs.Rules.{Rule, met, allMet}
 use Rattle.meaning.specs.Bytes.{rulesIn}
-use Rattle.meaning.specs.Members.{within-length}
+use Rattle.meaning.proofs.Members.{within-length}
 use Rattle.books.specs.declared.Reading.{Reading}
 use Rattle.books.specs.declared.Reading.the-variants.{Book, Faulty}
 use Rattle.books.specs.declared.Tested.{Tested}

@@ -8,7 +8,7 @@ use borrow.Author.Tests.{le-ltb}
 use Rattle.meaning.specs.Rows.{alike}
 use Rattle.meaning.specs.Rules.{Literal, Rule, atMost, atLeast, setting, sign, bound, topOf, key, AllFit, Ordered, Good, AllGood}
 use Rattle.meaning.specs.Bytes.{encodeLiterals, encodeRule, encodeRules, encodeEnd, encode, WellFormed, endAt}
-use Rattle.meaning.specs.Encoded.{Stands, stands, literals-stand, rule-stands, encode-count}
+use Rattle.meaning.proofs.Encoded.{Stands, stands, literals-stand, rule-stands, encode-count}
 use Rattle.books.specs.declared.Got.the-variants.{At}
 use Rattle.books.specs.declared.Reading.the-variants.{Book}
 use Rattle.books.specs.Format.{markOf, fieldOf, orderOf, boundOf, literalOf, literalsOf, bodyOf, ruleOf, rulesOf, tailOf, restOf, readOf}

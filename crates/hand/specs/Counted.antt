@@ -9,7 +9,7 @@ use lib.Dec.{eqb}
 use lib.ListN.{length, getD, take, drop, set, length-set}
 use lib.Seq.{getD-drop, drop-drop}
 use borrow.Author.Tests.{eq-eqb, ne-eqb}
-use Rattle.meaning.specs.Tests.{case, is, isnt}
+use Rattle.meaning.proofs.Tests.{case, is, isnt}
 use Rattle.meaning.specs.Rows.{Row, rowsOf}
 use Rattle.meaning.specs.Rules.{Literal, Rule, holds}
 use Rattle.meaning.specs.Bytes.{literalAt, literalsAt}

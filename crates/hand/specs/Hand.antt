@@ -8,12 +8,12 @@ use mathlib.Core.Logic.{inl, inr}
 use lib.ListN.{length, getD, take, set, length-set, length-append}
 use lib.Seq.{getD-set-same}
 use borrow.Author.Needs.{read-below}
-use Rattle.meaning.specs.Tests.{lt-or-le}
+use Rattle.meaning.proofs.Tests.{lt-or-le}
 use Rattle.meaning.specs.Lists.{opt}
 use Rattle.meaning.specs.Rules.{Literal, Rule}
 use Rattle.meaning.specs.Bytes.{encodeLiterals, literal, literalAt, literalsAt}
 use Rattle.hand.specs.declared.Hand.{Hand}
-use Rattle.meaning.specs.Literals.{literals-length, literals-same, literals-more, literals-bytes}
+use Rattle.meaning.proofs.Literals.{literals-length, literals-same, literals-more, literals-bytes}
 
 abbrev pub ruleIn : Hand → Rule
 ruleIn h = literalsAt (h .bytes) 0 (h .count)

@@ -11,7 +11,7 @@ use lib.Seq.{drop-cons, ext-getD, getD-take, length-take-le}
 use Rattle.meaning.specs.Rows.{Row, at, rowsOf}
 use Rattle.meaning.specs.Rules.{Rule, Side, met}
 use Rattle.meaning.specs.Families.{pick, both, join, extreme}
-use Rattle.meaning.specs.Combined.{at-both, length-both}
+use Rattle.meaning.proofs.Combined.{at-both, length-both}
 use Rattle.hand.specs.declared.sides.Joined.{Joined}
 use Rattle.hand.specs.Sides.{side}
 use Rattle.hand.specs.Change.{change, change-length, change-at, change-on, change-none}

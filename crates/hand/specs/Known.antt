@@ -5,7 +5,7 @@ use native.Mathlib.Nat.{sub-zero}
 use mathlib.Core.Path.{_≡_, refl}
 use mathlib.Core.List.{List, [], _∷_}
 use lib.ListN.{length, getD}
-use Rattle.meaning.specs.All.{All}
+use Rattle.meaning.specs.Lists.{All}
 use Rattle.meaning.specs.Rules.{Rule, setting, AllFit}
 use Rattle.meaning.specs.Rows.{Sizes, rowsOf}
 use Rattle.hand.specs.declared.Hand.{Hand}

@@ -10,11 +10,11 @@ use lib.Dec.{T}
 use lib.ListN.{length, getD}
 use lib.Seq.{append-snoc}
 use Rattle.meaning.specs.Lists.{each}
-use Rattle.meaning.specs.ListLaws.{map-each}
+use Rattle.meaning.proofs.ListLaws.{map-each}
 use Rattle.meaning.specs.Rows.{Row, Sizes, begins}
 use Rattle.meaning.specs.Listing.{below, after}
-use Rattle.meaning.specs.Tree.{tree, limb, below-tree}
-use Rattle.meaning.specs.After.{beyond, after-beyond}
+use Rattle.meaning.proofs.Tree.{tree, limb, below-tree}
+use Rattle.meaning.proofs.After.{beyond, after-beyond}
 
 -- k of the sizes, from setting i on
 abbrev pub part : Sizes → ℕ → ℕ → Sizes

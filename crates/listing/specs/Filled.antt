@@ -11,7 +11,7 @@ use borrow.Author.Tests.{eqb-true}
 use Rattle.meaning.specs.Lists.{keep, consIf, lastOr}
 use Rattle.meaning.specs.Rows.{Row, Sizes}
 use Rattle.meaning.specs.Listing.{shown, less, front}
-use Rattle.meaning.specs.Paged.{front-rows}
+use Rattle.meaning.proofs.Paged.{front-rows}
 use Rattle.books.specs.Put.{putAt, putAt-length, putAt-nothing, putAt-putAt}
 use Rattle.listing.specs.declared.cursor.Cursor.{Cursor}
 use Rattle.listing.specs.declared.walk.Walk.{Walk}

@@ -10,12 +10,12 @@ use lib.Dec.{T, eqb}
 use lib.ListN.{length, length-append, length-set, getD, set, replicate}
 use lib.Seq.{getD-set-same, getD-set-other}
 use borrow.Author.Tests.{lt-ltb, eq-eqb, eqb-true, not-false}
-use Rattle.meaning.specs.Tests.{case, is, isnt, lt-or-le, is-yes, is-no}
+use Rattle.meaning.proofs.Tests.{case, is, isnt, lt-or-le, is-yes, is-no}
 use Rattle.meaning.specs.Rows.{Row}
 use Rattle.meaning.specs.Rules.{Rule, met}
 use Rattle.meaning.specs.Bytes.{literalsAt, ruleAt, endAt, rulesAt, placeAt}
 use Rattle.meaning.specs.Listing.{dead, decided}
-use Rattle.meaning.specs.Dead.{dead-append, met-prefix}
+use Rattle.meaning.proofs.Dead.{dead-append, met-prefix}
 use Rattle.listing.specs.declared.cursor.Cursor.{Cursor}
 use Rattle.listing.specs.declared.groups.Groups.{Groups}
 use Rattle.listing.specs.Cursors.{cursorOf}

@@ -9,8 +9,8 @@ use lib.Dec.{T, leb, ltb, eqb}
 use lib.ListN.{length, getD}
 use lib.Seq.{getD-append-seam}
 use borrow.Author.Tests.{le-leb, lt-leb, lt-ltb, le-ltb, eq-eqb, ne-eqb, eqb-true, eqb-false}
-use Rattle.meaning.specs.Tests.{case, is, isnt, lt-or-le}
-use Rattle.meaning.specs.All.{All}
+use Rattle.meaning.proofs.Tests.{case, is, isnt, lt-or-le}
+use Rattle.meaning.specs.Lists.{All}
 use Rattle.meaning.specs.Rows.{Row, at}
 use Rattle.meaning.specs.Rules.{bound, holds, met, key, Ordered}
 use Rattle.meaning.specs.Bytes.{literal, literalAt, literalsAt}

@@ -9,12 +9,12 @@ use lib.Dec.{T}
 use lib.ListN.{length, length-append, getD}
 use lib.Seq.{append-snoc}
 use borrow.Author.Tests.{le-leb, le-ltb, not-false}
-use Rattle.meaning.specs.Tests.{is-yes, is-no}
+use Rattle.meaning.proofs.Tests.{is-yes, is-no}
 use Rattle.meaning.specs.Rows.{Row, at}
 use Rattle.meaning.specs.Rules.{Rule, met}
 use Rattle.meaning.specs.Bytes.{literalsAt, ruleAt}
 use Rattle.meaning.specs.Listing.{decided, dead}
-use Rattle.meaning.specs.Dead.{met-prefix}
+use Rattle.meaning.proofs.Dead.{met-prefix}
 use Rattle.listing.specs.declared.scan.Passed.{Passed}
 use Rattle.listing.specs.declared.scan.Passed.the-variants.{Holds, Left}
 use Rattle.listing.specs.declared.scan.Judged.{Judged}

@@ -7,13 +7,13 @@ use mathlib.Core.List.{List, [], _∷_, _++_}
 use lib.Dec.{T, leb, ltb, ltb→lt}
 use lib.ListN.{length, getD}
 use borrow.Author.Tests.{leb-true, leb-false, lt-ltb}
-use Rattle.meaning.specs.Tests.{case, is, isnt, and-l, and-r, and-i, yes-of}
-use Rattle.meaning.specs.All.{All}
+use Rattle.meaning.proofs.Tests.{case, is, isnt, and-l, and-r, and-i, yes-of}
+use Rattle.meaning.specs.Lists.{All}
 use Rattle.meaning.specs.Rows.{Row}
 use Rattle.meaning.specs.Rules.{Literal, atMost, atLeast, Rule, setting, bound, holds, met, key, Ordered}
 use Rattle.meaning.specs.Bytes.{literalAt, literalsAt}
 use Rattle.meaning.specs.Listing.{decided}
-use Rattle.meaning.specs.Dead.{holds-prefix}
+use Rattle.meaning.proofs.Dead.{holds-prefix}
 use Rattle.books.specs.Holds.{literal-setting-is}
 use Rattle.listing.specs.declared.scan.Passed.the-variants.{Holds, Left}
 use Rattle.listing.specs.Early.{earlyOf}

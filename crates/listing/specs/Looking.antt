@@ -7,12 +7,12 @@ use mathlib.Core.Logic.{_⊎_, inl, inr}
 use mathlib.Core.List.{List, [], _∷_, _++_, append-nil, append-assoc}
 use lib.ListN.{length, getD}
 use lib.Seq.{append-snoc, getD-take}
-use Rattle.meaning.specs.Tests.{case, is, isnt, lt-or-le}
+use Rattle.meaning.proofs.Tests.{case, is, isnt, lt-or-le}
 use Rattle.meaning.specs.Rows.{Row, at}
 use Rattle.meaning.specs.Rules.{holds, met}
 use Rattle.meaning.specs.Bytes.{literalAt, literalsAt, ruleAt, rulesAt}
 use Rattle.meaning.specs.Listing.{dead, decided}
-use Rattle.meaning.specs.Dead.{holds-prefix}
+use Rattle.meaning.proofs.Dead.{holds-prefix}
 use Rattle.books.specs.Holds.{literal-setting-is}
 use Rattle.listing.specs.declared.cursor.Cursor.{Cursor}
 use Rattle.listing.specs.declared.scan.Judged.{Judged}

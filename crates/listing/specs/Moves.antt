@@ -8,9 +8,9 @@ use lib.Dec.{T, ltb, ltb→lt}
 use lib.ListN.{length, length-append, getD, take, set, replicate, List·getD-eq-default}
 use lib.Seq.{set-append-seam, append-snoc, take-suc, length-take-le}
 use borrow.Author.Tests.{lt-ltb, le-ltb, not-true, not-false}
-use Rattle.meaning.specs.Tests.{yes-of, is-yes}
+use Rattle.meaning.proofs.Tests.{yes-of, is-yes}
 use Rattle.meaning.specs.Rows.{Row, Sizes, alike, begins}
-use Rattle.meaning.specs.Alike.{alike-lent}
+use Rattle.meaning.proofs.Alike.{alike-lent}
 use Rattle.listing.specs.declared.cursor.Cursor.{Cursor}
 use Rattle.listing.specs.Sizes.{Limited, inLimits, limits-known}
 use Rattle.listing.specs.Cursors.{prefixOf, cursorOf, cursorOk, nextValue, oneShorter, moveTo, downIn, alongIn, upIn, downOf, alongOf, upOf}

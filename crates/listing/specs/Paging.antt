@@ -12,8 +12,9 @@ use Rattle.meaning.specs.Lists.{isNil, lastOr}
 use Rattle.meaning.specs.Rows.{Row, Sizes}
 use Rattle.meaning.specs.Bytes.{rulesIn, wordAt}
 use Rattle.meaning.specs.Listing.{dead, shown, front, after}
-use Rattle.meaning.specs.After.{SomeValues, allLast, reached-last}
-use Rattle.meaning.specs.Paged.{front-none, page-reached, page-begins}
+use Rattle.meaning.proofs.After.{SomeValues, reached-last}
+use Rattle.meaning.specs.Inner.{allLast}
+use Rattle.meaning.proofs.Paged.{front-none, page-reached, page-begins}
 use Rattle.listing.specs.declared.cursor.Cursor.{Cursor}
 use Rattle.listing.specs.declared.walk.Walk.{Walk}
 use Rattle.listing.specs.declared.paging.Outcome.the-variants.{Listed}

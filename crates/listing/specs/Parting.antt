@@ -8,7 +8,7 @@ use mathlib.Core.List.{List}
 use lib.ListN.{length, length-set, getD, set}
 use lib.Seq.{getD-set-same, getD-set-other}
 use borrow.Author.Tests.{not-true, not-false}
-use Rattle.meaning.specs.Order.{compare}
+use Rattle.meaning.proofs.Order.{compare}
 
 pub eq-or : (a b : ℕ) → (a ≡ b) ⊎ (a ≡ b → ⊥)
 eq-or a b = elim (compare a b) [

@@ -8,9 +8,9 @@ use lib.Dec.{T, leb, ltb, eqb, leb→le, eqb→eq}
 use lib.ListN.{length, length-append, length-drop, getD, drop, set, replicate, length-replicate, take-append-drop}
 use lib.Seq.{set-append-seam, take-append-seam, append-snoc, length-take-le}
 use borrow.Author.Tests.{le-ltb}
-use Rattle.meaning.specs.Tests.{and-l, and-r, yes-of, is-yes}
+use Rattle.meaning.proofs.Tests.{and-l, and-r, yes-of, is-yes}
 use Rattle.meaning.specs.Rows.{Row, Sizes, begins}
-use Rattle.meaning.specs.Visited.{begins-nil, begins-none, begins-cons}
+use Rattle.meaning.proofs.Visited.{begins-nil, begins-none, begins-cons}
 use Rattle.listing.specs.declared.cursor.Cursor.{Cursor}
 use Rattle.listing.specs.Cursors.{prefixOf, cursorOf, allZero, fits, clean, cursorOk}
 

@@ -10,18 +10,18 @@ use lib.Dec.{T}
 use lib.ListN.{length, take, drop, replicate}
 use lib.Seq.{take-at, drop-append-seam}
 use borrow.Author.Tests.{ne-eqb, le-ltb, le-leb}
-use Rattle.meaning.specs.Tests.{is-yes}
-use Rattle.meaning.specs.Lists.{keep, isNil}
-use Rattle.meaning.specs.All.{All}
+use Rattle.meaning.proofs.Tests.{is-yes}
+use Rattle.meaning.specs.Lists.{keep, isNil, All}
 use Rattle.meaning.specs.Rows.{Row, Sizes, alike, begins}
 use Rattle.meaning.specs.Rules.{allMet}
 use Rattle.meaning.specs.Bytes.{rulesIn}
-use Rattle.meaning.specs.Listing.{dead, combinations, visits, shown, front, Page, after, page, run, allRows, allSteps}
-use Rattle.meaning.specs.Visited.{begins-nil}
-use Rattle.meaning.specs.Dead.{AllDecided, good-decided}
-use Rattle.meaning.specs.Paged.{page-begins, page-moves}
-use Rattle.meaning.specs.Runs.{ended, Enough as EnoughRooms, run-whole, run-moves}
-use Rattle.meaning.specs.Alike.{alike-length}
+use Rattle.meaning.specs.Listing.{dead, combinations, visits, shown, front, Page, after, page}
+use Rattle.meaning.proofs.Listing.{run, allRows, allSteps}
+use Rattle.meaning.proofs.Visited.{begins-nil}
+use Rattle.meaning.proofs.Dead.{AllDecided, good-decided}
+use Rattle.meaning.proofs.Paged.{page-begins, page-moves}
+use Rattle.meaning.proofs.Runs.{ended, Enough as EnoughRooms, run-whole, run-moves}
+use Rattle.meaning.proofs.Alike.{alike-length}
 use Rattle.books.specs.declared.Reading.the-variants.{Book}
 use Rattle.books.specs.Format.{readOf}
 use Rattle.books.specs.Accepted.{headed}

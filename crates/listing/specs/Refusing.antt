@@ -9,7 +9,7 @@ use borrow.Author.Tests.{eq-eqb, ne-eqb, lt-ltb, le-ltb, not-true, not-false}
 use Rattle.meaning.specs.Rows.{Row, Sizes, alike}
 use Rattle.meaning.specs.Bytes.{rulesIn}
 use Rattle.meaning.specs.Listing.{dead}
-use Rattle.meaning.specs.Alike.{alike-lent, alike-length}
+use Rattle.meaning.proofs.Alike.{alike-lent, alike-length}
 use Rattle.books.specs.declared.Fault.{Fault}
 use Rattle.books.specs.declared.Reading.{Reading}
 use Rattle.books.specs.declared.Reading.the-variants.{Book, Faulty}

@@ -7,7 +7,7 @@ use mathlib.Core.List.{List}
 use lib.Dec.{leb}
 use lib.ListN.{length, getD, take, replicate}
 use borrow.Author.Tests.{le-leb, lt-leb, leb-true, not-false}
-use Rattle.meaning.specs.Alike.{alike-length, alike-at, alike-lent, alike-cut}
+use Rattle.meaning.proofs.Alike.{alike-length, alike-at, alike-lent, alike-cut}
 
 -- at most sixteen settings, each of 1 to 64 values
 pub record Limited (ns : List ℕ) : Type 0 where

@@ -5,7 +5,7 @@ use native.Mathlib.Omega.{arith}
 use mathlib.Core.Path.{_≡_, ap, _∙_}
 use mathlib.Core.List.{List, [], _∷_, _++_}
 use lib.ListN.{length}
-use Rattle.meaning.specs.All.{All}
+use Rattle.meaning.specs.Lists.{All}
 use Rattle.meaning.specs.Rows.{Sizes}
 use Rattle.meaning.specs.Rules.{Rule, Literal, atMost, atLeast, bound, topOf, Fits, AllFit, Ordered}
 use Rattle.meaning.specs.Bytes.{ruleAt, endAt, rulesAt, placeAt}

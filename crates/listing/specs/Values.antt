@@ -8,7 +8,7 @@ use mathlib.Core.Logic.{inl, inr}
 use lib.Dec.{eqb}
 use lib.Pow.{pow-pos, pow-lt, mod-pow-add, pow-mono, shr-shr, high, low, field, mod-mod-pow, ones-split, ones-lt, split}
 use borrow.Author.Tests.{le-leb, lt-leb, lt-ltb, le-ltb}
-use Rattle.meaning.specs.Tests.{lt-or-le}
+use Rattle.meaning.proofs.Tests.{lt-or-le}
 use Rattle.listing.specs.Interval.{between}
 
 -- bit v of s

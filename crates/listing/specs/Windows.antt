@@ -12,7 +12,7 @@ use Rattle.meaning.specs.Rows.{Row}
 use Rattle.meaning.specs.Rules.{Rule}
 use Rattle.meaning.specs.Bytes.{ruleAt, endAt, rulesAt, placeAt}
 use Rattle.meaning.specs.Listing.{dead}
-use Rattle.meaning.specs.Dead.{dead-append}
+use Rattle.meaning.proofs.Dead.{dead-append}
 use Rattle.listing.specs.declared.scan.Judged.{Judged}
 use Rattle.listing.specs.declared.scan.Span.{Span}
 use Rattle.listing.specs.declared.scan.Scanned.{Scanned}

@@ -13,7 +13,7 @@ ghost use lib.ListN.{length};
 ghost use Rattle.meaning.specs.Rows.{alike};
 ghost use Rattle.meaning.specs.Bytes.{rulesIn};
 ghost use Rattle.meaning.specs.Listing.{dead};
-ghost use Rattle.meaning.specs.After.{allLast};
+ghost use Rattle.meaning.specs.Inner.{allLast};
 ghost use Rattle.listing.specs.Cursors.{prefixOf};
 ghost use Rattle.listing.specs.Prefixes.{Plain};
 ghost use Rattle.listing.specs.Ending.{finishedOf};

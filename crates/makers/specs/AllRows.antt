@@ -7,11 +7,10 @@ use mathlib.Core.List.{List, [], _∷_}
 use lib.ListN.{length}
 use Rattle.meaning.specs.Lists.{each}
 use Rattle.meaning.specs.Rows.{Row, Sizes, rowsOf}
-use Rattle.meaning.specs.Rules.{Rule}
+use Rattle.meaning.specs.Rules.{Rule, Part, done, skip, hold}
 use Rattle.meaning.specs.General.{rowRules, general}
-use Rattle.meaning.specs.Flat.{rows-count}
-use Rattle.meaning.specs.Reduced.{Part, done, skip, hold}
-use Rattle.meaning.specs.Made.{reduceFor-part}
+use Rattle.meaning.proofs.Flat.{rows-count}
+use Rattle.meaning.proofs.Made.{reduceFor-part}
 use Rattle.hand.specs.declared.Hand.{Hand}
 use Rattle.hand.specs.Hand.{ruleIn, Holding}
 use Rattle.makers.specs.declared.sending.Tally.{Tally}

@@ -7,12 +7,12 @@ use mathlib.Core.List.{List, [], _∷_, _++_}
 use mathlib.Core.Option.{Option, none, some}
 use lib.ListN.{length, drop}
 use borrow.Author.Tests.{lt-ltb, le-ltb, le-leb, lt-leb}
-use Rattle.meaning.specs.Tests.{lt-or-le}
+use Rattle.meaning.proofs.Tests.{lt-or-le}
 use Rattle.meaning.specs.Rows.{alike, at, rowsOf}
 use Rattle.meaning.specs.Rules.{Rule}
-use Rattle.meaning.specs.Closed.{ClosedFor, openRows}
-use Rattle.meaning.specs.Given.{open-none, FirstOpenFor, open-first}
-use Rattle.meaning.specs.Flat.{rows-whole}
+use Rattle.meaning.specs.Closed.{ClosedFor, openRows, FirstOpenFor}
+use Rattle.meaning.proofs.Given.{open-none, open-first}
+use Rattle.meaning.proofs.Flat.{rows-whole}
 use Rattle.tables.specs.declared.Flaw.{Flaw}
 use Rattle.tables.specs.declared.Flaw.the-variants.{Limits, Length, Rows, Value, Order}
 use Rattle.tables.specs.declared.Checked.{Checked}

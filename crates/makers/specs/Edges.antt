@@ -10,7 +10,7 @@ use lib.Dec.{ltb}
 use lib.ListN.{length}
 use borrow.Author.Tests.{le-ltb}
 use Rattle.meaning.specs.Lists.{opt, each}
-use Rattle.meaning.specs.All.{All-append}
+use Rattle.meaning.proofs.All.{All-append}
 use Rattle.meaning.specs.Rows.{Row, Sizes, at, rowsOf}
 use Rattle.meaning.specs.Rules.{Literal, atMost, atLeast, Rule, setting}
 use Rattle.meaning.specs.General.{differs, earlier, leftAt, rightAt}

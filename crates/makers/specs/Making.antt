@@ -8,16 +8,16 @@ use lib.Dec.{T}
 use lib.ListN.{length}
 use borrow.Author.Tests.{lt-ltb, le-ltb}
 use mathlib.Core.Logic.{inl, inr}
-use Rattle.meaning.specs.Tests.{lt-or-le}
-use Rattle.meaning.specs.Flat.{rows-count, row-length}
-use Rattle.meaning.specs.Members.{sound-next}
-use Rattle.meaning.specs.Parting.{less-inside, before-less}
+use Rattle.meaning.proofs.Tests.{lt-or-le}
+use Rattle.meaning.proofs.Flat.{rows-count, row-length}
+use Rattle.meaning.proofs.Members.{sound-next}
+use Rattle.meaning.proofs.Parting.{less-inside, before-less}
 use Rattle.makers.specs.declared.sending.Tally.{Tally}
 use Rattle.makers.specs.Sending.{State, sends, sendsFor, sendsFor-append, Sent}
 use Rattle.makers.specs.Edges.{edgeAt, edge-left, edge-right, Sides, SentEdges}
 use Rattle.makers.specs.Middle.{Apart, SentBetween}
 use Rattle.meaning.specs.Lists.{each}
-use Rattle.meaning.specs.ListLaws.{each-ext}
+use Rattle.meaning.proofs.ListLaws.{each-ext}
 use Rattle.meaning.specs.Rows.{Row, Sizes, at, row, rowsOf, sound}
 use Rattle.meaning.specs.Rules.{Rule}
 use Rattle.meaning.specs.General.{split, fork, leftAt, rightAt, middle, rowRules}

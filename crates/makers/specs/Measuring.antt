@@ -5,13 +5,12 @@ use mathlib.Core.Path.{_≡_, refl, sym, ap, _∙_}
 use mathlib.Core.List.{List, [], _∷_, map}
 use lib.ListN.{length, length-append, length-map}
 use Rattle.meaning.specs.Rows.{Row, Sizes}
-use Rattle.meaning.specs.Rules.{Rule}
+use Rattle.meaning.specs.Rules.{Rule, Part, done, skip, hold, Parts, ended, next}
 use Rattle.meaning.specs.General.{general}
 use Rattle.meaning.specs.Families.{reduceFor, rulesFor}
 use Rattle.meaning.specs.Bytes.{encodeRule, encodeRules}
-use Rattle.meaning.specs.Encoded.{encodeRule-length}
-use Rattle.meaning.specs.Reduced.{Part, done, skip, hold, Parts, ended, next}
-use Rattle.meaning.specs.Made.{rules-parts}
+use Rattle.meaning.proofs.Encoded.{encodeRule-length}
+use Rattle.meaning.proofs.Made.{rules-parts}
 use Rattle.makers.specs.declared.sending.Tally.{Tally}
 use Rattle.makers.specs.Sending.{State, sends-length, sends-rules, sendsFor, Sent}
 

@@ -7,7 +7,7 @@ use mathlib.Core.List.{List, [], _∷_, _++_, append-assoc}
 use lib.Dec.{ltb}
 use lib.ListN.{length, length-append}
 use Rattle.meaning.specs.Lists.{opt}
-use Rattle.meaning.specs.All.{All-append}
+use Rattle.meaning.proofs.All.{All-append}
 use Rattle.meaning.specs.Rows.{Row, Sizes, at, rowsOf}
 use Rattle.meaning.specs.Rules.{atMost, atLeast, setting}
 use Rattle.meaning.specs.General.{earlier, midAt}

@@ -12,7 +12,7 @@ use lib.Seq.{drop-cons}
 use borrow.Author.Tests.{lt-ltb, le-ltb, eq-eqb, ne-eqb}
 use Rattle.meaning.specs.Rows.{Row, at, row, rowsOf}
 use Rattle.meaning.specs.General.{split, fork}
-use Rattle.meaning.specs.Flat.{rows-count, row-bytes, row-length}
+use Rattle.meaning.proofs.Flat.{rows-count, row-bytes, row-length}
 
 -- ---- row k
 

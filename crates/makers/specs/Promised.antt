@@ -11,12 +11,12 @@ use lib.Seq.{take-append-seam, drop-append-seam}
 use Rattle.meaning.specs.Rows.{Row, alike, within, rowsOf}
 use Rattle.meaning.specs.Rules.{Rule, allMet}
 use Rattle.meaning.specs.Closed.{ClosedFor}
-use Rattle.meaning.specs.Given.{open-none}
-use Rattle.meaning.specs.Made.{exact}
-use Rattle.meaning.specs.Bounds.{made-well-formed}
+use Rattle.meaning.proofs.Given.{open-none}
+use Rattle.meaning.proofs.Made.{exact}
+use Rattle.meaning.proofs.Bounds.{made-well-formed}
 use Rattle.meaning.specs.Bytes.{rulesIn}
-use Rattle.meaning.specs.Encoded.{encode-rules}
-use Rattle.meaning.specs.Flat.{rows-count}
+use Rattle.meaning.proofs.Encoded.{encode-rules}
+use Rattle.meaning.proofs.Flat.{rows-count}
 use Rattle.books.specs.declared.Reading.{Reading}
 use Rattle.books.specs.Format.{readOf}
 use Rattle.books.specs.Written.{written}

@@ -5,8 +5,8 @@ use mathlib.Core.List.{List}
 use lib.ListN.{length, take, replicate}
 use borrow.Author.Tests.{lt-ltb, le-ltb}
 use Rattle.meaning.specs.Rows.{rowsOf}
-use Rattle.meaning.specs.Flat.{rows-whole}
-use Rattle.meaning.specs.Alike.{alike-length, alike-lent}
+use Rattle.meaning.proofs.Flat.{rows-whole}
+use Rattle.meaning.proofs.Alike.{alike-length, alike-lent}
 use Rattle.meaning.specs.Closed.{openRows}
 use Rattle.tables.specs.declared.Flaw.{Flaw}
 use Rattle.tables.specs.declared.Checked.{Checked}

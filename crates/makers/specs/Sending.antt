@@ -13,7 +13,7 @@ use Rattle.meaning.specs.Families.{reduceFor}
 use Rattle.meaning.specs.Bytes.{encodeRule, encodeRules}
 use Rattle.hand.specs.declared.Hand.{Hand}
 use Rattle.hand.specs.Hand.{ruleIn, rule-length, Sane, Holding, sane-bytes}
-use Rattle.meaning.specs.Encoded.{encodeRule-length}
+use Rattle.meaning.proofs.Encoded.{encodeRule-length}
 use Rattle.books.specs.Records.{Puts, ruleRecord, ruleRecord-is}
 use Rattle.books.specs.Put.{putAt, putIn, putAt-length, putAt-nothing, putAt-putAt, putIn-fits}
 use Rattle.makers.specs.declared.sending.Tally.{Tally}

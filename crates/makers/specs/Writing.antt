@@ -11,7 +11,7 @@ use Rattle.meaning.specs.Rules.{Rule}
 use Rattle.meaning.specs.General.{general}
 use Rattle.meaning.specs.Families.{rulesFor}
 use Rattle.meaning.specs.Bytes.{encodeRules, encodeHead, encodeEnd, encode}
-use Rattle.meaning.specs.Encoded.{encode-length}
+use Rattle.meaning.proofs.Encoded.{encode-length}
 use Rattle.books.specs.Put.{putAt, putAt-length, putAt-putAt, putIn-fits}
 use Rattle.books.specs.Records.{Puts}
 use Rattle.makers.specs.declared.Made.{Made}

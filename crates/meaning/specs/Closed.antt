@@ -1,8 +1,10 @@
 -- Closed: when a table is closed, and the first rows that show it is not.
-use Prim.Native.Nat.{ℕ, zero, suc, _-_}
+use Prim.Native.Nat.{ℕ, zero, suc, _-_, _<_}
 use mathlib.Core.Bool.{Bool, true, false}
 use mathlib.Core.List.{List, [], _∷_, List·Memᴰ}
 use mathlib.Core.Option.{Option, none, some}
+use mathlib.Core.Path.{_≡_}
+use mathlib.Core.Logic.{_⊎_}
 use lib.ListN.{length}
 use Rattle.meaning.specs.Rows.{Row, row, isRow}
 use Rattle.meaning.specs.Rules.{Side, low, high, byFamily}
@@ -63,3 +65,49 @@ openTriple rows = firstTriple (tryTriple rows) (length rows)
 -- the first rows that show the table not closed for the family; none for general
 unfoldable pub openRows : ℕ → List Row → Option (List ℕ)
 openRows family rows = byFamily family none (openPair low rows) (openPair high rows) (openTriple rows)
+
+-- (i′, j′) stands before (i, j)
+abbrev pub Earlier : ℕ → ℕ → ℕ → ℕ → Type 0
+Earlier i′ j′ i j = (i′ < i) ⊎ ((i′ ≡ i) × (j′ < j))
+
+module _ (s : Side) (rows : List Row) where
+  -- the result of rows i and j is a row
+  abbrev pub PairIn : ℕ → ℕ → Type 0
+  PairIn i j = List·Memᴰ (both s (row rows i) (row rows j)) rows
+
+  -- ---- something is found
+
+  pub record FirstOpen (numbers : List ℕ) : Type 0 where
+    pub one : ℕ
+    pub two : ℕ
+    pub found : numbers ≡ one ∷ two ∷ []
+    pub order : one < two
+    pub inside : two < length rows
+    pub no-row : ¬ PairIn one two
+    pub earlier : (i j : ℕ) → i < j → j < length rows → Earlier i j one two → PairIn i j
+
+-- ---- triples
+
+module _ (rows : List Row) where
+  -- the median of rows i, j and k is a row
+  abbrev pub TripleIn : ℕ → ℕ → ℕ → Type 0
+  TripleIn i j k = List·Memᴰ (median (row rows i) (row rows j) (row rows k)) rows
+
+  -- ---- something is found
+
+  pub record FirstOpenTriple (numbers : List ℕ) : Type 0 where
+    pub one : ℕ
+    pub two : ℕ
+    pub three : ℕ
+    pub found : numbers ≡ one ∷ two ∷ three ∷ []
+    pub order : (one < two) × (two < three)
+    pub inside : three < length rows
+    pub no-row : ¬ TripleIn one two three
+    pub earlier : (i j k : ℕ) → i < j → j < k → k < length rows → Earlier i j one two ⊎ ((i ≡ one) × (j ≡ two) × (k < three)) → TripleIn i j k
+
+-- the rows that refusal 7 names; general has none
+abbrev pub FirstOpenFor : ℕ → List Row → List ℕ → Type 0
+FirstOpenFor zero rows numbers = ⊥
+FirstOpenFor (suc zero) rows numbers = FirstOpen low rows numbers
+FirstOpenFor (suc (suc zero)) rows numbers = FirstOpen high rows numbers
+FirstOpenFor (suc (suc (suc f))) rows numbers = FirstOpenTriple rows numbers

@@ -1,12 +1,16 @@
 -- The other families: rows combined setting by setting, and how a general rule is reduced to Horn, dual Horn or bijunctive.
 use Prim.Native.Nat.{ℕ, zero, suc, min, max}
 use mathlib.Core.Bool.{Bool, true, false, cond, _&&_}
-use mathlib.Core.List.{List, [], _∷_, _++_, map}
+use mathlib.Core.List.{List, [], _∷_, _++_, map, List·Memᴰ}
 use mathlib.Core.Option.{Option, none, some}
+use mathlib.Core.Path.{_≡_}
+use mathlib.Core.Logic.{_↔_}
 use lib.ListN.{length}
-use Rattle.meaning.specs.Rows.{Row, Sizes, at}
-use Rattle.meaning.specs.Rules.{Literal, Rule, Side, low, high, holds, met, scarce, horn, byFamily}
+use lib.Dec.{T}
+use Rattle.meaning.specs.Rows.{Row, Sizes, at, within}
+use Rattle.meaning.specs.Rules.{Literal, Rule, Side, low, high, holds, met, scarce, horn, byFamily, allMet, inFamily}
 use Rattle.meaning.specs.General.{general}
+use Rattle.meaning.specs.Lists.{All}
 
 -- ---- rows combined
 
@@ -80,3 +84,13 @@ reduceFor family rows r = byFamily family r (reduce low rows r) (reduce high row
 
 unfoldable pub rulesFor : ℕ → Sizes → List Row → List Rule
 rulesFor family ns rows = map (reduceFor family rows) (general ns rows)
+
+-- the rules permit exactly the rows
+abbrev pub Exactly : Sizes → List Row → List Rule → Type 0
+Exactly ns rows rules = (x : Row) → T (within ns x) → T (allMet rules x) ↔ List·Memᴰ x rows
+
+-- some rules do, all in the family
+pub record Has (ns : Sizes) (rows : List Row) (family : ℕ) : Type 0 where
+  pub rules : List Rule
+  pub kept : All (λ r. inFamily family r ≡ true) rules
+  pub exactly : Exactly ns rows rules

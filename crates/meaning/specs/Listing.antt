@@ -1,11 +1,12 @@
 -- Listing: dead and live prefixes, the visited ones in order, a page, and a run of pages.
-use Prim.Native.Nat.{ℕ, zero, suc, _+_}
+use Prim.Native.Nat.{ℕ, zero, suc}
 use mathlib.Core.Bool.{Bool, true, false, cond, not, _&&_, _||_}
 use mathlib.Core.List.{List, [], _∷_, _++_, map}
-use lib.Dec.{ltb, eqb}
+use mathlib.Core.Path.{_≡_}
+use lib.Dec.{ltb, eqb, T}
 use lib.ListN.{length}
 use Rattle.meaning.specs.Lists.{each, keep, isNil, lastOr}
-use Rattle.meaning.specs.Rows.{Row, Sizes, before}
+use Rattle.meaning.specs.Rows.{Row, Sizes, before, begins}
 use Rattle.meaning.specs.Rules.{Rule, setting, met}
 
 -- all its literals are on the first k settings
@@ -68,15 +69,10 @@ module _ (ns : Sizes) (d : Row → Bool) where
       let seen = front (shown ns d) room budget (after c) in
       record { rows = keep (shown ns d) seen; steps = length seen; last = lastOr c seen; finished = isNil (after (lastOr c seen)) }
 
-  -- one page for each room and budget, each from where the last one stopped, until one is finished
-  abbrev pub run : List (ℕ × ℕ) → Row → List Page
-  run [] c = []
-  run (k ∷ ks) c = let g = page (k .0) (k .1) c in let r = run ks (g .last) in g ∷ cond (g .finished) [] r
-
-abbrev pub allRows : List Page → List Row
-allRows [] = []
-allRows (g ∷ gs) = g .rows ++ allRows gs
-
-abbrev pub allSteps : List Page → ℕ
-allSteps [] = 0
-allSteps (g ∷ gs) = g .steps + allSteps gs
+-- a nonempty prefix within the sizes, one value longer than a live one
+pub record Visited (ns : Sizes) (d : Row → Bool) (x : Row) : Type 0 where
+  pub shorter : Row
+  pub value : ℕ
+  pub longer : x ≡ shorter ++ (value ∷ [])
+  pub inside : T (begins ns x)
+  pub live : d shorter ≡ false

@@ -2,6 +2,7 @@
 use Prim.Native.Nat.{ℕ, zero, suc}
 use mathlib.Core.Bool.{Bool, true, false}
 use mathlib.Core.List.{List, [], _∷_, _++_}
+use mathlib.Core.Path.{_≡_}
 
 module _ {A : Type 0} where
   -- a list of one, if the test passes
@@ -31,3 +32,12 @@ module _ {A : Type 0} where
   abbrev pub lastOr : A → List A → A
   lastOr c [] = c
   lastOr c (x ∷ xs) = lastOr x xs
+
+  abbrev pub All : (A → Type 0) → List A → Type 0
+  All P [] = Unit {0}
+  All P (x ∷ xs) = P x × All P xs
+
+module _ {A : Type 0} (lt : A → A → Bool) where
+  abbrev pub Ascends : List A → Type 0
+  Ascends [] = Unit {0}
+  Ascends (x ∷ xs) = All (λ y. lt x y ≡ true) xs × Ascends xs

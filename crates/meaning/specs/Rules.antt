@@ -137,3 +137,16 @@ pub record Good (ns : Sizes) (family : ℕ) (r : Rule) : Type 0 where
 abbrev pub AllGood : Sizes → ℕ → List Rule → Type 0
 AllGood ns family [] = Unit {0}
 AllGood ns family (r ∷ rs) = Good ns family r × AllGood ns family rs
+
+-- ---- parts
+
+-- r is s with some literals left out
+pub data Part : Rule → Rule → Type 0 where
+  done : Part [] []
+  skip : {l : Literal} {r s : Rule} → Part r s → Part r (l ∷ s)
+  hold : {l : Literal} {r s : Rule} → Part r s → Part (l ∷ r) (l ∷ s)
+
+-- each rule of the first list is part of the rule at the same place of the second
+pub data Parts : List Rule → List Rule → Type 0 where
+  ended : Parts [] []
+  next : {r s : Rule} {rs ss : List Rule} → Part r s → Parts rs ss → Parts (r ∷ rs) (s ∷ ss)

@@ -7,10 +7,10 @@ use mathlib.Core.List.{List, [], _∷_, _++_}
 use mathlib.Core.Option.{Option, none, some}
 use lib.Dec.{leb, ltb, eqb}
 use lib.ListN.{length}
-use Rattle.meaning.specs.Tests.{Case, case, is, isnt}
+use Rattle.meaning.proofs.Tests.{Case, case, is, isnt}
 use Rattle.meaning.specs.Rows.{Row, alike, rowsOf}
-use Rattle.meaning.specs.Alike.{alike-length}
-use Rattle.meaning.specs.Closed.{orElse, unless, openRows}
+use Rattle.meaning.proofs.Alike.{alike-length}
+use Rattle.meaning.specs.Closed.{orElse, unless, openRows, FirstOpenFor}
 use Rattle.tables.specs.declared.Flaw.{Flaw}
 use Rattle.tables.specs.declared.Flaw.the-variants.{Limits, Length, Rows, Value, Order}
 use Rattle.tables.specs.declared.Checked.{Checked}
@@ -18,7 +18,7 @@ use Rattle.tables.specs.declared.Checked.the-variants.{Sound, Flawed}
 use Rattle.tables.specs.Check.{limits, firstHigh, firstLow, rowFlawOf, flawOf, answer, checkedOf, valuesOf}
 use Rattle.tables.specs.Firsts.{high-some, low-some}
 use Rattle.meaning.specs.Rules.{Rule}
-use Rattle.meaning.specs.Given.{FirstOpenFor, open-first}
+use Rattle.meaning.proofs.Given.{open-first}
 use Rattle.makers.specs.Made.{numberOf, rulesMade, bytesMade, fitting, unlessFlawed, openAs, unlessOpen, bookAlike, closedOf, madeOf}
 use Rattle.makers.specs.Cases.{made-stays}
 use Rattle.meaning.specs.Bytes.{rulesIn}

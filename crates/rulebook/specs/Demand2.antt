@@ -8,17 +8,16 @@ use mathlib.Core.Option.{Option, none, some}
 use lib.Dec.{T}
 use lib.ListN.{length, take, getD}
 use Rattle.meaning.specs.Rows.{Row, Sizes, alike, within, sound, rowsOf}
-use Rattle.meaning.specs.Rules.{Rule, allMet, AllGood}
+use Rattle.meaning.specs.Rules.{Rule, allMet, AllGood, Parts}
 use Rattle.meaning.specs.General.{general}
-use Rattle.meaning.specs.Families.{rulesFor}
-use Rattle.meaning.specs.Closed.{ClosedFor, openRows}
-use Rattle.meaning.specs.Given.{FirstOpenFor, open-none, open-first}
-use Rattle.meaning.specs.Made as meant
-use Rattle.meaning.specs.Reduced.{Parts}
-use Rattle.meaning.specs.Bounds as bounds
-use Rattle.meaning.specs.Converse.{Has, has-closed}
+use Rattle.meaning.specs.Families.{rulesFor, Has}
+use Rattle.meaning.specs.Closed.{ClosedFor, openRows, FirstOpenFor}
+use Rattle.meaning.proofs.Given.{open-none, open-first}
+use Rattle.meaning.proofs.Made as meant
+use Rattle.meaning.proofs.Bounds as bounds
+use Rattle.meaning.proofs.Converse.{has-closed}
 use Rattle.meaning.specs.Bytes.{encode, rulesIn, WellFormed}
-use Rattle.meaning.specs.Encoded.{encode-rules}
+use Rattle.meaning.proofs.Encoded.{encode-rules}
 use Rattle.books.specs.declared.Reading.the-variants.{Book}
 use Rattle.books.specs.declared.Tested.the-variants.{Permitted}
 use Rattle.books.specs.Format.{readOf}

@@ -6,16 +6,14 @@ use mathlib.Core.Bool.{Bool, true, false}
 use mathlib.Core.List.{List, [], List·Memᴰ}
 use lib.Dec.{T}
 use lib.ListN.{length}
-use Rattle.meaning.specs.Lists.{keep, isNil}
-use Rattle.meaning.specs.Ascending.{Ascends}
+use Rattle.meaning.specs.Lists.{keep, isNil, Ascends}
 use Rattle.meaning.specs.Rows.{Row, Sizes, alike, within, begins, before}
 use Rattle.meaning.specs.Rules.{Rule, allMet}
 use Rattle.meaning.specs.Bytes.{rulesIn}
-use Rattle.meaning.specs.Listing.{dead, combinations, visits, after}
-use Rattle.meaning.specs.Dead as deadness
-use Rattle.meaning.specs.Visited as visited
-use Rattle.meaning.specs.Visited.{Visited}
-use Rattle.meaning.specs.Shown as shown
+use Rattle.meaning.specs.Listing.{dead, combinations, visits, after, Visited}
+use Rattle.meaning.proofs.Dead as deadness
+use Rattle.meaning.proofs.Visited as visited
+use Rattle.meaning.proofs.Shown as shown
 use Rattle.books.specs.declared.Reading.the-variants.{Book}
 use Rattle.books.specs.Format.{readOf}
 use Rattle.listing.specs.Cursors.{cursorOf, prefixOf}

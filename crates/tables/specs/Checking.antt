@@ -8,8 +8,8 @@ use mathlib.Core.List.{List}
 use mathlib.Core.Option.{Option, none, some}
 use lib.ListN.{length}
 use Rattle.meaning.specs.Rows.{Sizes, rowsOf}
-use Rattle.meaning.specs.Flat.{rows-count, row-ends}
-use Rattle.meaning.specs.Tests.{lt-or-le}
+use Rattle.meaning.proofs.Flat.{rows-count, row-ends}
+use Rattle.meaning.proofs.Tests.{lt-or-le}
 use Rattle.meaning.specs.Closed.{orElse}
 use Rattle.tables.specs.declared.Flaw.the-variants.{Value, Order}
 use Rattle.tables.specs.declared.Checked.the-variants.{Sound, Flawed}

@@ -12,8 +12,8 @@ use lib.ListN.{length}
 use Rattle.meaning.specs.Rows.{Row, rowsOf}
 use Rattle.meaning.specs.Rules.{Side, low, high}
 use Rattle.meaning.specs.Closed.{first, unless, firstPair, firstTriple, tryPair, tryTriple, openPair, openTriple, openRows}
-use Rattle.meaning.specs.Search.{none-some}
-use Rattle.meaning.specs.Flat.{rows-count}
+use Rattle.meaning.proofs.Search.{none-some}
+use Rattle.meaning.proofs.Flat.{rows-count}
 use Rattle.tables.specs.declared.Closure.{Closure}
 use Rattle.tables.specs.declared.Closure.the-variants.{Closed, Pair, Triple}
 use Rattle.tables.specs.Loops.{first-end, first-hit, first-miss}

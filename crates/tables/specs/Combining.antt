@@ -11,9 +11,9 @@ use lib.Seq.{take-suc, take-suc-set, take-all}
 use Rattle.meaning.specs.Rows.{Row, at, row, isRow, rowsOf}
 use Rattle.meaning.specs.Rules.{Side, low, high}
 use Rattle.meaning.specs.Families.{pick, both, mid, median}
-use Rattle.meaning.specs.Combined.{at-both, at-median, length-both, length-median}
+use Rattle.meaning.proofs.Combined.{at-both, at-median, length-both, length-median}
 use Rattle.tables.specs.Lookup.{Rising}
-use Rattle.meaning.specs.Flat.{row-ends, row-length, row-at}
+use Rattle.meaning.proofs.Flat.{row-ends, row-length, row-at}
 
 -- by the flag of the code
 abbrev pub sideOf : Bool → Side

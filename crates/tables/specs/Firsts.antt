@@ -8,12 +8,12 @@ use mathlib.Core.List.{List}
 use mathlib.Core.Option.{none, some}
 use lib.Dec.{T, ltb, ltb→lt, lt→ltb}
 use lib.ListN.{length}
-use Rattle.meaning.specs.Tests.{lt-or-le}
+use Rattle.meaning.proofs.Tests.{lt-or-le}
 use Rattle.meaning.specs.Rows.{Row, Sizes, at, row, before, ascending}
 use Rattle.meaning.specs.Closed.{first, unless}
-use Rattle.meaning.specs.Search.{unless-none, unless-some, first-none, first-some}
-use Rattle.meaning.specs.Members.{ascending-next}
-use Rattle.meaning.specs.Sound.{ascending-of}
+use Rattle.meaning.proofs.Search.{unless-none, unless-some, first-none, first-some}
+use Rattle.meaning.proofs.Members.{ascending-next}
+use Rattle.meaning.proofs.Sound.{ascending-of}
 use Rattle.tables.specs.declared.Flaw.{Flaw}
 use Rattle.tables.specs.declared.Flaw.the-variants.{Value, Order}
 use Rattle.tables.specs.Check.{tryHigh, firstHigh, tryLow, firstLow}

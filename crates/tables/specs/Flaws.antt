@@ -9,13 +9,13 @@ use mathlib.Core.Option.{Option, none, some}
 use lib.Dec.{T, leb, eqb}
 use lib.ListN.{length}
 use borrow.Author.Tests.{leb-true, leb-false, eqb-true, eqb-false, le-leb, eq-eqb}
-use Rattle.meaning.specs.Tests.{Case, is, isnt, case, and-l, and-r, and-i}
+use Rattle.meaning.proofs.Tests.{Case, is, isnt, case, and-l, and-r, and-i}
 use Rattle.meaning.specs.Rows.{Row, Sizes, at, row, ascending, allWithin, sound, rowsOf}
 use Rattle.meaning.specs.Closed.{orElse, unless}
-use Rattle.meaning.specs.Search.{none-some, orElse-none}
-use Rattle.meaning.specs.Members.{within-at, row-mem, allWithin-mem}
-use Rattle.meaning.specs.Sound.{within-of, allWithin-of}
-use Rattle.meaning.specs.Flat.{rows-count, row-length, row-at, row-ends}
+use Rattle.meaning.proofs.Search.{none-some, orElse-none}
+use Rattle.meaning.proofs.Members.{within-at, row-mem, allWithin-mem}
+use Rattle.meaning.proofs.Sound.{within-of, allWithin-of}
+use Rattle.meaning.proofs.Flat.{rows-count, row-length, row-at, row-ends}
 use Rattle.tables.specs.declared.Flaw.{Flaw}
 use Rattle.tables.specs.declared.Flaw.the-variants.{Limits, Length, Rows, Value, Order}
 use Rattle.tables.specs.Check.{firstHigh, firstLow, rowFlawOf, flawOf}

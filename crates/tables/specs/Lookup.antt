@@ -9,11 +9,11 @@ use mathlib.Core.List.{List}
 use lib.Dec.{T}
 use lib.ListN.{length, take, drop}
 use Rattle.meaning.specs.Rows.{Row, row, before, ascending, same, isRow, rowsOf}
-use Rattle.meaning.specs.Tests.{is, isnt, case, lt-or-le, yes-of, no-of, is-yes, is-no}
-use Rattle.meaning.specs.Order.{before-irreflexive, before-transitive, before-total}
-use Rattle.meaning.specs.Members.{same-refl, same-eq, isRow-mem, row-mem, mem-row}
-use Rattle.meaning.specs.Sound.{ascending-before}
-use Rattle.meaning.specs.Flat.{rows-count, row-bytes, row-ends}
+use Rattle.meaning.proofs.Tests.{is, isnt, case, lt-or-le, yes-of, no-of, is-yes, is-no}
+use Rattle.meaning.proofs.Order.{before-irreflexive, before-transitive, before-total}
+use Rattle.meaning.proofs.Members.{same-refl, same-eq, isRow-mem, row-mem, mem-row}
+use Rattle.meaning.proofs.Sound.{ascending-before}
+use Rattle.meaning.proofs.Flat.{rows-count, row-bytes, row-ends}
 use Rattle.tables.specs.declared.order.Compared.{Compared}
 use Rattle.tables.specs.declared.order.Compared.the-variants.{Below, Same, Above}
 use Rattle.tables.specs.Compare.{comparedOf, compared-says}

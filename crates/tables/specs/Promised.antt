@@ -9,11 +9,11 @@ use mathlib.Core.List.{List}
 use mathlib.Core.Option.{Option, none, some}
 use lib.Dec.{T}
 use lib.ListN.{length}
-use Rattle.meaning.specs.Tests.{is, isnt, case, and-r}
+use Rattle.meaning.proofs.Tests.{is, isnt, case, and-r}
 use Rattle.meaning.specs.Rows.{alike, at, ascending, allWithin, sound, rowsOf}
 use Rattle.meaning.specs.Closed.{orElse, unless}
-use Rattle.meaning.specs.Alike.{alike-length, alike-at}
-use Rattle.meaning.specs.Flat.{rows-whole}
+use Rattle.meaning.proofs.Alike.{alike-length, alike-at}
+use Rattle.meaning.proofs.Flat.{rows-whole}
 use Rattle.tables.specs.declared.Flaw.{Flaw}
 use Rattle.tables.specs.declared.Flaw.the-variants.{Limits, Length, Rows, Value, Order}
 use Rattle.tables.specs.declared.Checked.{Checked}

@@ -10,8 +10,8 @@ use lib.Dec.{leb}
 use lib.ListN.{length, take, replicate}
 use borrow.Author.Tests.{le-leb, lt-leb, eq-eqb, ne-eqb}
 use Rattle.meaning.specs.Rows.{Sizes}
-use Rattle.meaning.specs.Alike.{alike-length, alike-lent}
-use Rattle.meaning.specs.Tests.{yes-of, tests}
+use Rattle.meaning.proofs.Alike.{alike-length, alike-lent}
+use Rattle.meaning.proofs.Tests.{yes-of, tests}
 use Rattle.meaning.specs.Closed.{orElse, unless}
 use Rattle.tables.specs.declared.Flaw.the-variants.{Limits, Length, Rows}
 use Rattle.tables.specs.declared.Checked.{Checked}

@@ -10,7 +10,7 @@ use mathlib.Core.Option.{Option, none, some}
 use lib.ListN.{length, take, drop}
 use borrow.Author.Tests.{lt-ltb, le-ltb}
 use Rattle.meaning.specs.Rows.{Sizes, at, row, before, rowsOf}
-use Rattle.meaning.specs.Flat.{rows-count, row-bytes}
+use Rattle.meaning.proofs.Flat.{rows-count, row-bytes}
 use Rattle.meaning.specs.Closed.{orElse, first, unless}
 use Rattle.tables.specs.declared.Flaw.{Flaw}
 use Rattle.tables.specs.declared.Flaw.the-variants.{Value, Order}

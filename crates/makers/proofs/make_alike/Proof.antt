@@ -1,5 +1,5 @@
 -- `makers::make_alike` meets its contract: sixteen sizes, cut at l, are those of the head.
-use Rattle.meaning.specs.Alike.{alike-cut}
+use Rattle.meaning.proofs.Alike.{alike-cut}
 use Rattle.makers.specs.Refusals.{alike-given, alike-book}
 use borrow.Author.Needs.{needs}
 use Rattle.makers.proofs.make_alike.Statement.{statement}

@@ -1,5 +1,5 @@
 -- `books::walk::literal_holds` meets its contract: by cases on the sign.
-use Rattle.meaning.specs.Literals.{holds-most, holds-least}
+use Rattle.meaning.proofs.Literals.{holds-most, holds-least}
 use borrow.Author.Needs.{needs}
 use Rattle.books.proofs.walk.literal_holds.Statement.{statement}
 use Rattle.books.proofs.walk.literal_holds.Tie as tie

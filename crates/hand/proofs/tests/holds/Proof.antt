@@ -1,5 +1,5 @@
 -- `hand::tests::holds` meets its contract. Each sign is a lemma of Asked.
-use Rattle.meaning.specs.Literals.{holds-most, holds-least}
+use Rattle.meaning.proofs.Literals.{holds-most, holds-least}
 use borrow.Author.Needs.{needs}
 use Rattle.hand.proofs.tests.holds.Statement.{statement}
 use Rattle.hand.proofs.tests.holds.Tie as tie

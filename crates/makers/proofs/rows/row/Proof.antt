@@ -1,6 +1,6 @@
 -- `makers::rows::row` meets its contract: the row ends within the table (`row-ends`).
 use native.Mathlib.Omega.{arith}
-use Rattle.meaning.specs.Flat.{row-ends}
+use Rattle.meaning.proofs.Flat.{row-ends}
 use Rattle.makers.specs.Parts.{row-part}
 use borrow.Author.Needs.{needs}
 use Rattle.makers.proofs.rows.row.Statement.{statement}
