@@ -17,8 +17,8 @@ use Rattle.tables.specs.declared.Flaw.{Flaw}
 use Rattle.tables.specs.declared.Flaw.the-variants.{Limits, Length, Rows, Value, Order}
 use Rattle.tables.specs.declared.Checked.{Checked}
 use Rattle.tables.specs.declared.Checked.the-variants.{Sound, Flawed}
-use Rattle.tables.specs.Check.{checkedOf}
-use Rattle.tables.specs.Promised.{Passes, checked-sound}
+use Rattle.tables.specs.Check.{checkedOf, Passes}
+use Rattle.tables.proofs.laws.Promised.{checked-sound}
 use Rattle.makers.specs.declared.Made.{Made}
 use Rattle.makers.specs.declared.Made.the-variants.{Book, Family, Room, Flawed as Refused}
 use Rattle.makers.specs.Made.{numberOf, valuesOf, rulesMade, bytesMade, openAs, unlessFlawed, unlessOpen, fitting, bookAlike, closedOf, madeOf}

@@ -20,7 +20,7 @@ use Rattle.meaning.proofs.Flat.{rows-count}
 use Rattle.books.specs.declared.Reading.{Reading}
 use Rattle.books.specs.Format.{readOf}
 use Rattle.books.specs.Written.{written}
-use Rattle.tables.specs.Promised.{checked-sound}
+use Rattle.tables.proofs.laws.Promised.{checked-sound}
 use Rattle.makers.specs.declared.Made.{Made}
 use Rattle.makers.specs.declared.Made.the-variants.{Book}
 use Rattle.makers.specs.Made.{numberOf, rulesMade, bytesMade, madeOf}

@@ -13,9 +13,9 @@ use Rattle.tables.specs.declared.Checked.{Checked}
 use Rattle.tables.specs.declared.Checked.the-variants.{Sound, Flawed}
 use Rattle.tables.specs.declared.Closure.{Closure}
 use Rattle.tables.specs.declared.Closure.the-variants.{Closed}
-use Rattle.tables.specs.Check.{checkedOf}
-use Rattle.tables.specs.Promised.{Passes, checked-sound}
-use Rattle.tables.specs.Closures.{shown}
+use Rattle.tables.specs.Check.{checkedOf, Passes}
+use Rattle.tables.proofs.laws.Promised.{checked-sound}
+use Rattle.tables.specs.Inner.{shown}
 use Rattle.makers.specs.declared.Made.{Made}
 use Rattle.makers.specs.declared.Made.the-variants.{Family, Pair, Triple, Flawed as Refused}
 use Rattle.makers.specs.Making.{Given}

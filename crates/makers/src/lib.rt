@@ -17,7 +17,7 @@ ghost use mathlib.Core.Path.{_≡_};
 ghost use mathlib.Core.List.{List};
 ghost use Prim.Native.Nat.{ℕ, _/_, _≤_};
 ghost use lib.ListN.{length};
-ghost use Rattle.tables.specs.Promised.{Passes};
+ghost use Rattle.tables.specs.Check.{Passes};
 ghost use Rattle.makers.specs.Made.{bookAlike, closedOf, madeOf};
 
 // What making a book gives: its length and number of rules, or the first of refusals 1 to 8.

@@ -16,7 +16,7 @@ use Rattle.tables.specs.declared.Flaw.the-variants.{Limits, Length, Rows, Value
 use Rattle.tables.specs.declared.Checked.{Checked}
 use Rattle.tables.specs.declared.Checked.the-variants.{Sound, Flawed}
 use Rattle.tables.specs.Check.{limits, firstHigh, firstLow, rowFlawOf, flawOf, answer, checkedOf, valuesOf}
-use Rattle.tables.specs.Firsts.{high-some, low-some}
+use Rattle.tables.proofs.laws.Firsts.{high-some, low-some}
 use Rattle.meaning.specs.Rules.{Rule}
 use Rattle.meaning.proofs.Given.{open-first}
 use Rattle.makers.specs.Made.{numberOf, rulesMade, bytesMade, fitting, unlessFlawed, openAs, unlessOpen, bookAlike, closedOf, madeOf}

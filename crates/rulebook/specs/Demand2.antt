@@ -28,7 +28,7 @@ use Rattle.makers.specs.Made.{numberOf, rulesMade, bytesMade, openAs, madeOf}
 use Rattle.makers.specs.Cases.{Tested, Makes, flawed, unknown, unclosed, narrow, given, made-cases}
 use Rattle.makers.specs.Promised.{Grants, Gives, made-given, made-gives, made-general}
 use Rattle.tables.specs.declared.Checked.the-variants.{Sound, Flawed}
-use Rattle.tables.specs.Promised.{checked-sound}
+use Rattle.tables.proofs.laws.Promised.{checked-sound}
 use Rattle.rulebook.specs.Told.{Told, madeTold}
 use Rattle.rulebook.specs.Demand1.{open-told}
 

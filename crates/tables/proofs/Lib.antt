@@ -1,1 +1,2 @@
 mod Answers
+pub mod laws

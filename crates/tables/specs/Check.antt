@@ -1,11 +1,12 @@
 -- Check: what is wrong with a table. Refusals 1 to 5 of document 01, in their order, with their numbers and values.
-use Prim.Native.Nat.{ℕ, suc, _/_, _%_, _-_, _≤_}
+use Prim.Native.Nat.{ℕ, suc, _/_, _%_, _-_, _≤_, _*_}
 use mathlib.Core.Bool.{Bool, _&&_}
 use mathlib.Core.List.{List, [], _∷_}
 use mathlib.Core.Option.{Option, none, some}
-use lib.Dec.{leb, ltb, eqb}
+use mathlib.Core.Path.{_≡_}
+use lib.Dec.{leb, ltb, eqb, T}
 use lib.ListN.{length}
-use Rattle.meaning.specs.Rows.{Row, Sizes, alike, at, row, before, rowsOf}
+use Rattle.meaning.specs.Rows.{Row, Sizes, alike, at, row, before, rowsOf, sound}
 use Rattle.meaning.specs.Closed.{orElse, first, unless}
 use Rattle.tables.specs.declared.Flaw.{Flaw}
 use Rattle.tables.specs.declared.Flaw.the-variants.{Limits, Length, Rows, Value, Order}
@@ -70,3 +71,10 @@ answer k (some f) = Flawed f
 
 unfoldable pub checkedOf : ℕ → ℕ → List ℕ → Checked
 checkedOf n l table = answer (length table / l) (orElse (unless (limits n l) Limits) (flawOf (alike n l) table))
+
+-- a table that passes all five, of k rows
+pub record Passes (n l : ℕ) (table : List ℕ) (k : ℕ) : Type 0 where
+  pub limited : Limited n l
+  pub whole : length table ≡ k * l
+  pub few : k ≤ 512
+  pub rows-sound : T (sound (alike n l) (rowsOf l table))

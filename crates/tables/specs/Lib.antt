@@ -1,12 +1,2 @@
-pub mod Compare
-pub mod Lookup
-pub mod Combining
-pub mod Closures
 pub mod Check
-pub mod Loops
-pub mod Steps
-pub mod Checking
-pub mod Refusals
-pub mod Firsts
-pub mod Flaws
-pub mod Promised
+pub mod Inner

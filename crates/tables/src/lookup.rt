@@ -4,7 +4,7 @@ use crate::order::compare;
 ghost use mathlib.Core.Path.{_≡_};
 ghost use lib.ListN.{length};
 ghost use Rattle.meaning.specs.Rows.{isRow, rowsOf};
-ghost use Rattle.tables.specs.Lookup.{Rising};
+ghost use Rattle.tables.specs.Inner.{Rising};
 
 // Is `x` a row of the table, whose rows are as long as `x` and ascend? Each turn halves the rows among which it may be.
 pub fn is_row(x: &[u8], table: &[u8]) -> bool

@@ -1,7 +1,7 @@
 // The order of rows: at the first differing setting the greater value decides.
 ghost use mathlib.Core.Path.{_≡_};
 ghost use lib.ListN.{length};
-ghost use Rattle.tables.specs.Compare.{comparedOf};
+ghost use Rattle.tables.specs.Inner.{comparedOf};
 
 // How one row stands to another.
 pub enum Compared {

@@ -1,5 +1,5 @@
 -- Each way out is a lemma of Closures.
-use Rattle.tables.specs.Closures.{open-general, open-horn, open-dual, open-bijunctive}
+use Rattle.tables.proofs.laws.Closures.{open-general, open-horn, open-dual, open-bijunctive}
 use borrow.Author.Needs.{needs}
 use Rattle.tables.proofs.closures.open_rows.Statement.{statement}
 use Rattle.tables.proofs.closures.open_rows.Tie as tie

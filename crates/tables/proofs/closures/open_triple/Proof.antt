@@ -3,8 +3,9 @@ use Prim.Native.Nat.{_-_}
 use native.Mathlib.Omega.{arith}
 use Rattle.meaning.specs.Rows.{rowsOf}
 use Rattle.meaning.specs.Closed.{openTriple}
-use Rattle.tables.specs.Combining.{is-known}
-use Rattle.tables.specs.Closures.{triplesAfter, Looking, look-end, look-past, look-answer, all-look}
+use Rattle.tables.proofs.laws.Combining.{is-known}
+use Rattle.tables.proofs.laws.Closures.{Looking, look-end, look-past, look-answer, all-look}
+use Rattle.tables.specs.Inner.{triplesAfter}
 use Rattle.tables.proofs.Answers.{other}
 use borrow.Author.Needs.{needs}
 use Rattle.tables.proofs.closures.open_triple.Statement.{statement}

@@ -3,8 +3,9 @@ use Prim.Native.Nat.{_-_}
 use native.Mathlib.Omega.{arith}
 use Rattle.meaning.specs.Rows.{rowsOf}
 use Rattle.meaning.specs.Closed.{tryPair}
-use Rattle.tables.specs.Combining.{sideOf, is-known}
-use Rattle.tables.specs.Closures.{pairAfter, Looking, look-end, look-on, look-found, pair-look, kept, missed}
+use Rattle.tables.proofs.laws.Combining.{is-known}
+use Rattle.tables.specs.Inner.{sideOf, pairAfter}
+use Rattle.tables.proofs.laws.Closures.{Looking, look-end, look-on, look-found, pair-look, kept, missed}
 use borrow.Author.Needs.{needs}
 use Rattle.tables.proofs.closures.pair_after.Statement.{statement}
 use Rattle.tables.proofs.closures.pair_after.Tie as tie

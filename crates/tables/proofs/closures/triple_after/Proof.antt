@@ -3,8 +3,9 @@ use Prim.Native.Nat.{_-_}
 use native.Mathlib.Omega.{arith}
 use Rattle.meaning.specs.Rows.{rowsOf}
 use Rattle.meaning.specs.Closed.{tryTriple}
-use Rattle.tables.specs.Combining.{is-known}
-use Rattle.tables.specs.Closures.{tripleAfter, Looking, look-end, look-on, look-found, triple-look, kept, missed}
+use Rattle.tables.proofs.laws.Combining.{is-known}
+use Rattle.tables.proofs.laws.Closures.{Looking, look-end, look-on, look-found, triple-look, kept, missed}
+use Rattle.tables.specs.Inner.{tripleAfter}
 use borrow.Author.Needs.{needs}
 use Rattle.tables.proofs.closures.triple_after.Statement.{statement}
 use Rattle.tables.proofs.closures.triple_after.Tie as tie

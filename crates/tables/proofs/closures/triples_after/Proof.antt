@@ -1,8 +1,9 @@
 -- What is left of the search gives the whole (Looking).
 use Prim.Native.Nat.{_-_}
 use native.Mathlib.Omega.{arith}
-use Rattle.tables.specs.Combining.{is-known}
-use Rattle.tables.specs.Closures.{tripleAfter, triplesAfter, Looking, look-end, look-past, look-answer, triples-look}
+use Rattle.tables.proofs.laws.Combining.{is-known}
+use Rattle.tables.proofs.laws.Closures.{Looking, look-end, look-past, look-answer, triples-look}
+use Rattle.tables.specs.Inner.{tripleAfter, triplesAfter}
 use borrow.Author.Needs.{needs}
 use Rattle.tables.proofs.Answers.{other}
 use Rattle.tables.proofs.closures.triples_after.Statement.{statement}

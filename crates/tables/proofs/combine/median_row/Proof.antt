@@ -1,7 +1,8 @@
 -- The first k values are in the array (Filled). Each way through the loop is a lemma of Combining.
 use Prim.Native.Nat.{_-_}
 use native.Mathlib.Omega.{arith}
-use Rattle.tables.specs.Combining.{medianOf, Filled, median-start, median-on, filled-end}
+use Rattle.tables.proofs.laws.Combining.{Filled, median-start, median-on, filled-end}
+use Rattle.tables.specs.Inner.{medianOf}
 use borrow.Author.Needs.{needs}
 use Rattle.tables.proofs.combine.median_row.Statement.{statement}
 use Rattle.tables.proofs.combine.median_row.Tie as tie

@@ -1,5 +1,5 @@
 -- The middle of three is picked four times (middle-picked).
-use Rattle.tables.specs.Combining.{middle-picked}
+use Rattle.tables.proofs.laws.Combining.{middle-picked}
 use borrow.Author.Needs.{needs}
 use Rattle.tables.proofs.combine.middle.Statement.{statement}
 use Rattle.tables.proofs.combine.middle.Tie as tie

@@ -1,5 +1,5 @@
 -- The part of the array that is looked up is the combined row.
-use Rattle.tables.specs.Combining.{pair-length, cut-length, cut-rising, cut-row}
+use Rattle.tables.proofs.laws.Combining.{pair-length, cut-length, cut-rising, cut-row}
 use borrow.Author.Needs.{needs}
 use Rattle.tables.proofs.combine.pair_is_row.Statement.{statement}
 use Rattle.tables.proofs.combine.pair_is_row.Tie as tie

@@ -1,5 +1,5 @@
 -- Each way out is a lemma of Combining.
-use Rattle.tables.specs.Combining.{picked-high, picked-first, picked-low, picked-second}
+use Rattle.tables.proofs.laws.Combining.{picked-high, picked-first, picked-low, picked-second}
 use Rattle.tables.proofs.combine.picked.Statement.{statement}
 use Rattle.tables.proofs.combine.picked.Tie as tie
 

@@ -1,5 +1,5 @@
 -- Each way out is a lemma of Refusals.
-use Rattle.tables.specs.Refusals.{limits-known, limits-broken}
+use Rattle.tables.proofs.laws.Refusals.{limits-known, limits-broken}
 use borrow.Author.Needs.{needs}
 use Rattle.tables.proofs.flaws.check.Statement.{statement}
 use Rattle.tables.proofs.flaws.check.Tie as tie

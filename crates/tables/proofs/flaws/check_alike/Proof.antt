@@ -1,5 +1,5 @@
 -- The array of sixteen sizes, cut at l, is the sizes of edition 1.
-use Rattle.tables.specs.Refusals.{cut-length, cut-wide, cut-checked}
+use Rattle.tables.proofs.laws.Refusals.{cut-length, cut-wide, cut-checked}
 use borrow.Author.Needs.{needs}
 use Rattle.tables.proofs.flaws.check_alike.Statement.{statement}
 use Rattle.tables.proofs.flaws.check_alike.Tie as tie

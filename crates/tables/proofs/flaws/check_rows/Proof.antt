@@ -3,8 +3,8 @@ use Prim.Native.Nat.{_-_}
 use native.Mathlib.Omega.{arith}
 use lib.ListN.{length}
 use denote.Ref.{now}
-use Rattle.tables.specs.Steps.{Stands}
-use Rattle.tables.specs.Checking.{Checking, checking-start, checking-stands, checking-whole, checking-high, checking-on, checking-sound, checking-low}
+use Rattle.tables.specs.Inner.{Stands}
+use Rattle.tables.proofs.laws.Checking.{Checking, checking-start, checking-stands, checking-whole, checking-high, checking-on, checking-sound, checking-low}
 use Rattle.tables.proofs.flaws.check_rows.Statement.{statement}
 use Rattle.tables.proofs.flaws.check_rows.Tie as tie
 

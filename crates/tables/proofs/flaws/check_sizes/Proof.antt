@@ -1,6 +1,6 @@
 -- Each way out is a lemma of Refusals.
 use native.Mathlib.Omega.{arith}
-use Rattle.tables.specs.Refusals.{sizes-uneven, sizes-many, sizes-rows}
+use Rattle.tables.proofs.laws.Refusals.{sizes-uneven, sizes-many, sizes-rows}
 use borrow.Author.Needs.{needs}
 use Rattle.tables.proofs.flaws.check_sizes.Statement.{statement}
 use Rattle.tables.proofs.flaws.check_sizes.Tie as tie

@@ -1,6 +1,6 @@
 -- Each way out is a lemma of Refusals.
 use native.Mathlib.Omega.{arith}
-use Rattle.tables.specs.Refusals.{limits-low, limits-high, limits-narrow, limits-wide}
+use Rattle.tables.proofs.laws.Refusals.{limits-low, limits-high, limits-narrow, limits-wide}
 use Rattle.tables.proofs.flaws.in_limits.Statement.{statement}
 use Rattle.tables.proofs.flaws.in_limits.Tie as tie
 

@@ -1,6 +1,6 @@
 -- Each way out is a lemma of Steps.
 use native.Mathlib.Omega.{arith}
-use Rattle.tables.specs.Steps.{low-kept, low-last, low-rises, low-same, low-above}
+use Rattle.tables.proofs.laws.Steps.{low-kept, low-last, low-rises, low-same, low-above}
 use borrow.Author.Needs.{needs}
 use Rattle.tables.proofs.flaws.low_next.Statement.{statement}
 use Rattle.tables.proofs.flaws.low_next.Tie as tie

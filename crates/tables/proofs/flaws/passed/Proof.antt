@@ -2,7 +2,7 @@
 use Prim.Native.Nat.{_-_}
 use native.Mathlib.Omega.{arith}
 use lib.ListN.{length}
-use Rattle.tables.specs.Steps.{Passing, passing-start, passing-stop, passing-on, passing-end}
+use Rattle.tables.proofs.laws.Steps.{Passing, passing-start, passing-stop, passing-on, passing-end}
 use borrow.Author.Needs.{needs}
 use Rattle.tables.proofs.flaws.passed.Statement.{statement}
 use Rattle.tables.proofs.flaws.passed.Tie as tie

@@ -3,7 +3,7 @@ use Prim.Native.Nat.{ℕ, _+_, _*_, _/_, _-_, _≤_}
 use native.Mathlib.Omega.{arith}
 use lib.ListN.{length}
 use denote.Ref.{now}
-use Rattle.tables.specs.Lookup.{Halving, halving-start, halving-end, middle-ends, halving-low, halving-high, halving-found}
+use Rattle.tables.proofs.laws.Lookup.{Halving, halving-start, halving-end, middle-ends, halving-low, halving-high, halving-found}
 use borrow.Author.Needs.{needs}
 use Rattle.tables.proofs.lookup.is_row.Statement.{statement}
 use Rattle.tables.proofs.lookup.is_row.Tie as tie

@@ -2,7 +2,7 @@
 use Prim.Native.Nat.{_-_}
 use native.Mathlib.Omega.{arith}
 use lib.ListN.{length}
-use Rattle.tables.specs.Compare.{Level, level-start, level-end, level-below, level-above, level-on}
+use Rattle.tables.proofs.laws.Compare.{Level, level-start, level-end, level-below, level-above, level-on}
 use borrow.Author.Needs.{needs}
 use Rattle.tables.proofs.order.compare.Statement.{statement}
 use Rattle.tables.proofs.order.compare.Tie as tie

@@ -16,13 +16,8 @@ use Rattle.meaning.proofs.Search.{none-some}
 use Rattle.meaning.proofs.Flat.{rows-count}
 use Rattle.tables.specs.declared.Closure.{Closure}
 use Rattle.tables.specs.declared.Closure.the-variants.{Closed, Pair, Triple}
-use Rattle.tables.specs.Loops.{first-end, first-hit, first-miss}
-
--- the rows that the answer shows
-abbrev pub shown : Closure → Option (List ℕ)
-shown Closed = none
-shown (Pair i j) = some (i ∷ j ∷ [])
-shown (Triple i j k) = some (i ∷ j ∷ k ∷ [])
+use Rattle.tables.specs.Inner.{shown, pairAfter, tripleAfter, triplesAfter}
+use Rattle.tables.proofs.laws.Loops.{first-end, first-hit, first-miss}
 
 -- it is determined by them
 pub shown-injective : (a b : Closure) → shown a ≡ shown b → a ≡ b
@@ -37,15 +32,6 @@ shown-injective (Triple i j k) (Pair i′ j′) e = let z : _≡_ {A = ℕ} 0 1 
 shown-injective (Triple i j k) (Triple i′ j′ k′) e = cc
 
 -- ---- one loop for each row number, the last changing fastest
-
-unfoldable pub pairAfter : Side → ℕ → List ℕ → ℕ → Option (List ℕ)
-pairAfter s l table i = first (tryPair s (rowsOf l table) i) (suc i) (length table / l - suc i)
-
-unfoldable pub tripleAfter : ℕ → List ℕ → ℕ → ℕ → Option (List ℕ)
-tripleAfter l table i j = first (tryTriple (rowsOf l table) i j) (suc j) (length table / l - suc j)
-
-unfoldable pub triplesAfter : ℕ → List ℕ → ℕ → Option (List ℕ)
-triplesAfter l table i = first (tripleAfter l table i) (suc i) (length table / l - suc i)
 
 pub pairs-are : (s : Side) (l : ℕ) (table : List ℕ) → openPair s (rowsOf l table) ≡ first (pairAfter s l table) 0 (length table / l)
 unfolding openPair firstPair pairAfter

@@ -16,12 +16,8 @@ use Rattle.meaning.proofs.Sound.{ascending-before}
 use Rattle.meaning.proofs.Flat.{rows-count, row-bytes, row-ends}
 use Rattle.tables.specs.declared.order.Compared.{Compared}
 use Rattle.tables.specs.declared.order.Compared.the-variants.{Below, Same, Above}
-use Rattle.tables.specs.Compare.{comparedOf, compared-says}
-
--- the rows of the table, l bytes each, ascend
-pub record Rising (l : ℕ) (table : List ℕ) : Type 0 where
-  pub wide : 0 < l
-  pub rising : T (ascending (rowsOf l table))
+use Rattle.tables.specs.Inner.{comparedOf, Rising}
+use Rattle.tables.proofs.laws.Compare.{compared-says}
 
 -- ---- the rows from low up to high are those among which x may be
 

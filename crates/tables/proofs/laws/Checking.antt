@@ -14,8 +14,8 @@ use Rattle.meaning.specs.Closed.{orElse}
 use Rattle.tables.specs.declared.Flaw.the-variants.{Value, Order}
 use Rattle.tables.specs.declared.Checked.the-variants.{Sound, Flawed}
 use Rattle.tables.specs.Check.{tryHigh, firstHigh, tryLow, firstLow, rowFlawOf, answer}
-use Rattle.tables.specs.Loops.{first-end}
-use Rattle.tables.specs.Steps.{highFrom, Passed, noted, lowFrom, Stands}
+use Rattle.tables.proofs.laws.Loops.{first-end}
+use Rattle.tables.specs.Inner.{highFrom, Passed, noted, lowFrom, Stands}
 
 orElse-none : {A : Type 0} (o : Option A) → orElse o none ≡ o
 unfolding orElse

@@ -11,9 +11,7 @@ use borrow.Author.Tests.{lt-ltb, le-ltb, eq-eqb, ne-eqb}
 use Rattle.meaning.specs.Rows.{Row, at, before, same}
 use Rattle.tables.specs.declared.order.Compared.{Compared}
 use Rattle.tables.specs.declared.order.Compared.the-variants.{Below, Same, Above}
-
-unfoldable pub comparedOf : Row → Row → Compared
-comparedOf a b = cond (before a b) Below (cond (same a b) Same Above)
+use Rattle.tables.specs.Inner.{comparedOf}
 
 -- ---- what an answer says of the order
 

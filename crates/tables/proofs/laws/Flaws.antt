@@ -19,7 +19,7 @@ use Rattle.meaning.proofs.Flat.{rows-count, row-length, row-at, row-ends}
 use Rattle.tables.specs.declared.Flaw.{Flaw}
 use Rattle.tables.specs.declared.Flaw.the-variants.{Limits, Length, Rows, Value, Order}
 use Rattle.tables.specs.Check.{firstHigh, firstLow, rowFlawOf, flawOf}
-use Rattle.tables.specs.Firsts.{Below, High, high-none, high-some, Low, low-none, low-some}
+use Rattle.tables.proofs.laws.Firsts.{Below, High, high-none, high-some, Low, low-none, low-some}
 
 -- past refusals 2 and 3: whole rows, and no more than 512
 pub record Counted (ns : Sizes) (table : List ℕ) : Type 0 where

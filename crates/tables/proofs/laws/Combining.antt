@@ -8,17 +8,12 @@ use mathlib.Core.Bool.{Bool, true, false}
 use mathlib.Core.List.{List}
 use lib.ListN.{length, take, set, length-set}
 use lib.Seq.{take-suc, take-suc-set, take-all}
-use Rattle.meaning.specs.Rows.{Row, at, row, isRow, rowsOf}
+use Rattle.meaning.specs.Rows.{Row, at, isRow, rowsOf}
 use Rattle.meaning.specs.Rules.{Side, low, high}
-use Rattle.meaning.specs.Families.{pick, both, mid, median}
+use Rattle.meaning.specs.Families.{pick, mid}
 use Rattle.meaning.proofs.Combined.{at-both, at-median, length-both, length-median}
-use Rattle.tables.specs.Lookup.{Rising}
 use Rattle.meaning.proofs.Flat.{row-ends, row-length, row-at}
-
--- by the flag of the code
-abbrev pub sideOf : Bool → Side
-sideOf false = low
-sideOf true = high
+use Rattle.tables.specs.Inner.{Rising, sideOf, Ready, Known, pairOf, medianOf}
 
 -- ---- one value
 
@@ -75,25 +70,8 @@ module _ (x : Row) (l : ℕ) where
 
 -- ---- rows of a table
 
--- the rows ascend, and are no wider than the array
-pub record Ready (l : ℕ) (table : List ℕ) : Type 0 where
-  pub narrow : l ≤ 16
-  pub ordered : Rising l table
-
--- row i is one of them
-pub record Known (l : ℕ) (table : List ℕ) (i : ℕ) : Type 0 where
-  pub known : i < length table / l
-  pub ends : i * l + l ≤ length table
-  pub few : i < length table
-
 pub is-known : (l : ℕ) (table : List ℕ) (i : ℕ) → i < length table / l → Known l table i
 is-known l table i h = record { known = h; ends = row-ends l table i h; few = omega (arith, div-le-self (length table) l) }
-
-abbrev pub pairOf : Side → ℕ → List ℕ → ℕ → ℕ → Row
-pairOf s l table i j = both s (row (rowsOf l table) i) (row (rowsOf l table) j)
-
-abbrev pub medianOf : ℕ → List ℕ → ℕ → ℕ → ℕ → Row
-medianOf l table i j m = median (row (rowsOf l table) i) (row (rowsOf l table) j) (row (rowsOf l table) m)
 
 module _ (s : Side) (l : ℕ) (table : List ℕ) (i j : ℕ) (c : Known l table i) (d : Known l table j) where
   pub pair-length : length (pairOf s l table i j) ≡ l

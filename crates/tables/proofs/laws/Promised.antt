@@ -7,21 +7,20 @@ use mathlib.Core.Logic.{_↔_}
 use mathlib.Core.Bool.{true, false, false≢true}
 use mathlib.Core.List.{List}
 use mathlib.Core.Option.{Option, none, some}
-use lib.Dec.{T}
 use lib.ListN.{length}
-use Rattle.meaning.proofs.Tests.{is, isnt, case, and-r}
 use Rattle.meaning.specs.Rows.{alike, at, ascending, allWithin, sound, rowsOf}
 use Rattle.meaning.specs.Closed.{orElse, unless}
+use Rattle.meaning.proofs.Tests.{is, isnt, case, and-r}
 use Rattle.meaning.proofs.Alike.{alike-length, alike-at}
 use Rattle.meaning.proofs.Flat.{rows-whole}
 use Rattle.tables.specs.declared.Flaw.{Flaw}
 use Rattle.tables.specs.declared.Flaw.the-variants.{Limits, Length, Rows, Value, Order}
 use Rattle.tables.specs.declared.Checked.{Checked}
 use Rattle.tables.specs.declared.Checked.the-variants.{Sound, Flawed}
-use Rattle.tables.specs.Check.{limits, Limited, flawOf, answer, checkedOf}
-use Rattle.tables.specs.Refusals.{limits-hold}
-use Rattle.tables.specs.Flaws.{Counted, Shows, flaw-none, flaw-some}
-use Rattle.tables.specs.Combining.{Ready}
+use Rattle.tables.specs.Check.{limits, Limited, flawOf, answer, checkedOf, Passes}
+use Rattle.tables.specs.Inner.{Ready}
+use Rattle.tables.proofs.laws.Refusals.{limits-hold}
+use Rattle.tables.proofs.laws.Flaws.{Counted, Shows, flaw-none, flaw-some}
 
 -- what a refusal shows of a table of rows of l values below n
 abbrev pub ShowsOf : ℕ → ℕ → List ℕ → Flaw → Type 0
@@ -30,13 +29,6 @@ ShowsOf n l table Length = Limited n l × Shows (alike n l) table Length
 ShowsOf n l table (Rows k) = Limited n l × Shows (alike n l) table (Rows k)
 ShowsOf n l table (Value p) = Limited n l × Shows (alike n l) table (Value p)
 ShowsOf n l table (Order k) = Limited n l × Shows (alike n l) table (Order k)
-
--- a table that passes all five, of k rows
-pub record Passes (n l : ℕ) (table : List ℕ) (k : ℕ) : Type 0 where
-  pub limited : Limited n l
-  pub whole : length table ≡ k * l
-  pub few : k ≤ 512
-  pub rows-sound : T (sound (alike n l) (rowsOf l table))
 
 answer-sound : (k m : ℕ) (o : Option Flaw) → answer k o ≡ Sound m → (o ≡ none) × (k ≡ m)
 answer-sound k m none e = (refl, cc)

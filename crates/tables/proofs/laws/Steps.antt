@@ -1,36 +1,25 @@
 -- Steps: the steps of the pass over a table that checks its values and the order of its rows.
-use Prim.Native.Nat.{ℕ, zero, suc, _+_, _*_, _/_, _%_, _-_, _≤_, _<_}
+use Prim.Native.Nat.{ℕ, zero, suc, _+_, _/_, _%_, _-_, _≤_, _<_}
 use native.Mathlib.Omega.{arith}
 use native.Mathlib.Nat.{add-zero, zero-add, add-assoc, add-mod, mod-mod, mod-eq-of-lt, add-mul, suc-mul, div-lt-iff-lt-mul, le-div-iff-mul-le}
 use native.Mathlib.Numerals.{add-one}
 use mathlib.Core.Path.{_≡_, refl, sym, _∙_}
 use mathlib.Core.Bool.{false}
 use mathlib.Core.List.{List}
-use mathlib.Core.Option.{Option, none, some}
 use lib.ListN.{length, take, drop}
 use borrow.Author.Tests.{lt-ltb, le-ltb}
 use Rattle.meaning.specs.Rows.{Sizes, at, row, before, rowsOf}
+use Rattle.meaning.specs.Closed.{orElse, unless}
 use Rattle.meaning.proofs.Flat.{rows-count, row-bytes}
-use Rattle.meaning.specs.Closed.{orElse, first, unless}
-use Rattle.tables.specs.declared.Flaw.{Flaw}
 use Rattle.tables.specs.declared.Flaw.the-variants.{Value, Order}
 use Rattle.tables.specs.Check.{tryHigh, tryLow}
 use Rattle.tables.specs.declared.order.Compared.{Compared}
 use Rattle.tables.specs.declared.order.Compared.the-variants.{Below, Same, Above}
-use Rattle.tables.specs.Compare.{comparedOf, compared-says}
-use Rattle.tables.specs.Loops.{first-end, first-hit, first-miss}
+use Rattle.tables.specs.Inner.{comparedOf, highFrom, Passed, lowFrom, Stands}
+use Rattle.tables.proofs.laws.Compare.{compared-says}
+use Rattle.tables.proofs.laws.Loops.{first-end, first-hit, first-miss}
 
 -- ---- the values of one row
-
--- what is found from place p on
-unfoldable pub highFrom : Sizes → List ℕ → ℕ → Option Flaw
-highFrom ns table p = first (tryHigh ns table) p (length table - p)
-
--- the values from `start` on are below their sizes up to place r, within the row; and there not, unless the row ends
-pub record Passed (ns : Sizes) (table : List ℕ) (start r : ℕ) : Type 0 where
-  pub inside : r ≤ start + length ns
-  pub same : highFrom ns table start ≡ highFrom ns table r
-  pub stopped : r < start + length ns → highFrom ns table r ≡ some (Value r)
 
 module _ (ns : Sizes) (table : List ℕ) (start : ℕ) where
   -- the first i values of the row are passed
@@ -76,23 +65,6 @@ module _ (ns : Sizes) (table : List ℕ) (start : ℕ) where
     }
 
 -- ---- the order of rows
-
--- a row number that is noted; 0 for none, since row 0 has none before it
-abbrev pub noted : ℕ → Option Flaw
-noted zero = none
-noted (suc k) = some (Order (suc k))
-
--- what is found from row k on, after what is noted
-unfoldable pub lowFrom : List ℕ → ℕ → ℕ → ℕ → Option Flaw
-lowFrom table l k low = orElse (noted low) (first (tryLow (rowsOf l table)) k (length (rowsOf l table) - 1 - k))
-
--- row k of the table stands at `start`
-pub record Stands (table : List ℕ) (l k start : ℕ) : Type 0 where
-  pub wide : 0 < l
-  pub place : start ≡ k * l
-  pub known : k < length table / l
-  pub ends : start + l ≤ length table
-  pub few : k < length table
 
 pub low-kept : (table : List ℕ) (l k low : ℕ) → 0 < low → lowFrom table l (k + 1) low ≡ lowFrom table l k low
 unfolding lowFrom orElse

@@ -1,0 +1,11 @@
+pub mod Refusals
+pub mod Firsts
+pub mod Flaws
+pub mod Compare
+pub mod Lookup
+pub mod Combining
+pub mod Promised
+pub mod Loops
+pub mod Closures
+pub mod Steps
+pub mod Checking
