@@ -5,8 +5,6 @@ use Rattle.books.specs.declared.Fault.{Fault}
 use Rattle.books.specs.declared.Fault.the-variants.{Cut, Mark, Field, Order, Idle, Family, Trailing}
 use Rattle.books.specs.declared.Reading.{Reading}
 use Rattle.books.specs.declared.Reading.the-variants.{Book, Faulty}
-use Rattle.books.specs.declared.Tested.{Tested}
-use Rattle.books.specs.declared.Tested.the-variants.{Permitted, NotMet, Length, Value, Faulty as Refused}
 
 abbrev pub numberOf : Fault → ℕ
 numberOf (Cut p) = 9
@@ -34,18 +32,3 @@ readingNumber (Faulty f) = numberOf f
 abbrev pub readingValues : Reading → List ℕ
 readingValues (Book n l family rules) = n ∷ l ∷ family ∷ rules ∷ []
 readingValues (Faulty f) = valuesOf f
-
--- NotMet is an answer and no refusal: the number of the rule
-abbrev pub testedNumber : Tested → ℕ
-testedNumber Permitted = 0
-testedNumber (NotMet k) = 0
-testedNumber (Refused f) = numberOf f
-testedNumber Length = 16
-testedNumber (Value p) = 17
-
-abbrev pub testedValues : Tested → List ℕ
-testedValues Permitted = []
-testedValues (NotMet k) = k ∷ []
-testedValues (Refused f) = valuesOf f
-testedValues Length = []
-testedValues (Value p) = p ∷ []

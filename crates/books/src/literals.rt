@@ -7,7 +7,7 @@ ghost use Prim.Native.Nat.{_+_, _≤_, _<_};
 ghost use lib.ListN.{length};
 ghost use Rattle.meaning.specs.Rules.{topOf};
 ghost use Rattle.books.specs.Format.{orderOf, boundOf, literalOf, literalsOf};
-ghost use Rattle.books.specs.Limits.{Limits};
+ghost use Rattle.books.specs.Inner.{Limits};
 
 // The number that a bound of sign g stays below, on a setting of n values.
 fn top(n: u8, g: usize) -> usize

@@ -5,7 +5,8 @@ use crate::walk::rule_end;
 ghost use mathlib.Core.Path.{_≡_};
 ghost use Prim.Native.Nat.{_<_};
 ghost use Rattle.books.specs.Format.{readOf};
-ghost use Rattle.books.specs.Part.{countOf, partOf, partPlace, partWhere, Placed, IsPart};
+ghost use Rattle.books.specs.Part.{countOf, partOf, partPlace, partWhere, IsPart};
+ghost use Rattle.books.specs.Inner.{Placed};
 
 // A part of a lent book: where it begins, and how many bytes it has. Laid out as C has it.
 #[repr(C)]

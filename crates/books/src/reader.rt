@@ -12,7 +12,7 @@ ghost use Prim.Native.Nat.{_≤_};
 ghost use lib.ListN.{length};
 ghost use Rattle.meaning.specs.Rows.{alike};
 ghost use Rattle.books.specs.Format.{rulesOf, tailOf, restOf, readOf};
-ghost use Rattle.books.specs.Limits.{Sized};
+ghost use Rattle.books.specs.Inner.{Sized};
 
 // The rules, over l settings of n values each.
 fn rules_alike(book: &[u8], n: usize, l: usize, family: usize, count: usize) -> Got

@@ -6,8 +6,7 @@ ghost use mathlib.Core.List.{[], _∷_};
 ghost use Prim.Native.Nat.{_+_, _≤_, _<_};
 ghost use lib.ListN.{length};
 ghost use Rattle.meaning.specs.Bytes.{encodeHead, encodeEnd};
-ghost use Rattle.books.specs.Put.{putAt};
-ghost use Rattle.books.specs.Records.{Puts, ruleRecord};
+ghost use Rattle.books.specs.Inner.{putAt, Puts, ruleRecord};
 
 // Copies the bytes over the room from `at` on; what stands before and after them stays.
 fn copy(room: &mut [u8], at: usize, bytes: &[u8])

@@ -10,9 +10,7 @@ ghost use lib.ListN.{length};
 ghost use Rattle.meaning.specs.Rules.{covers, overlap, inFamily};
 ghost use Rattle.meaning.specs.Bytes.{literalAt, literalsAt};
 ghost use Rattle.books.specs.Format.{bodyOf, ruleOf, rulesOf};
-ghost use Rattle.books.specs.Limits.{Limits};
-ghost use Rattle.books.specs.Idle.{idleNext};
-ghost use Rattle.books.specs.Signs.{NegativeAt, Signs};
+ghost use Rattle.books.specs.Inner.{Limits, idleNext, NegativeAt, Signs};
 
 // Do 'at most a' and 'at least b' on one setting make a rule idle?
 fn covered(a: u8, b: u8) -> bool

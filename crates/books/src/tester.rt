@@ -10,11 +10,8 @@ ghost use Prim.Native.Nat.{_≤_};
 ghost use lib.ListN.{length};
 ghost use Rattle.meaning.specs.Rows.{alike};
 ghost use Rattle.meaning.specs.Bytes.{rulesAt};
-ghost use Rattle.books.specs.Limits.{Sized};
-ghost use Rattle.books.specs.First.{firstUnmet, firstOver};
-ghost use Rattle.books.specs.Asked.{Testable};
-ghost use Rattle.books.specs.Tested.{judgeOf, testedOf};
-ghost use Rattle.books.specs.Judged.{Walkable};
+ghost use Rattle.books.specs.Inner.{Sized, Testable, Walkable};
+ghost use Rattle.books.specs.Tested.{judgeOf, testedOf, firstUnmet, firstOver};
 
 // The place of the first value that is not below its setting's size; the number of values, where all are.
 fn first_over(sizes: &[u8], combination: &[u8]) -> usize

@@ -4,7 +4,7 @@ ghost use Prim.Native.Nat.{_+_, _*_, _≤_, _<_};
 ghost use lib.ListN.{length, getD};
 ghost use Rattle.meaning.specs.Rules.{holds, met};
 ghost use Rattle.meaning.specs.Bytes.{literalAt, literalsAt, ruleAt, endAt};
-ghost use Rattle.books.specs.Asked.{Askable};
+ghost use Rattle.books.specs.Inner.{Askable};
 
 // The place after the rule whose mark is at p.
 pub fn rule_end(book: &[u8], p: usize) -> usize

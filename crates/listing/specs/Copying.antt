@@ -5,7 +5,8 @@ use mathlib.Core.Path.{_≡_, sym, ap, _∙_}
 use mathlib.Core.List.{List}
 use lib.ListN.{length, getD, take, set}
 use lib.Seq.{getD-take}
-use Rattle.books.specs.Put.{putAt, Copied, copied-start, copied-on, copied-end}
+use Rattle.books.proofs.laws.Put.{Copied, copied-start, copied-on, copied-end}
+use Rattle.books.specs.Inner.{putAt}
 use Rattle.listing.specs.declared.cursor.Cursor.{Cursor}
 use Rattle.listing.specs.Cursors.{prefixOf}
 use Rattle.listing.specs.Prefixes.{Plain, plain-length}

@@ -12,7 +12,8 @@ use Rattle.meaning.specs.Lists.{keep, consIf, lastOr}
 use Rattle.meaning.specs.Rows.{Row, Sizes}
 use Rattle.meaning.specs.Listing.{shown, less, front}
 use Rattle.meaning.proofs.Paged.{front-rows}
-use Rattle.books.specs.Put.{putAt, putAt-length, putAt-nothing, putAt-putAt}
+use Rattle.books.proofs.laws.Put.{putAt-length, putAt-nothing, putAt-putAt}
+use Rattle.books.specs.Inner.{putAt}
 use Rattle.listing.specs.declared.cursor.Cursor.{Cursor}
 use Rattle.listing.specs.declared.walk.Walk.{Walk}
 use Rattle.listing.specs.Cursors.{prefixOf, cursorOf}

@@ -15,7 +15,7 @@ use Rattle.meaning.specs.Rows.{Row, at}
 use Rattle.meaning.specs.Rules.{bound, holds, met, key, Ordered}
 use Rattle.meaning.specs.Bytes.{literal, literalAt, literalsAt}
 use Rattle.meaning.specs.Listing.{decided}
-use Rattle.books.specs.Holds.{literal-setting-is, literal-bound-is}
+use Rattle.books.proofs.laws.Holds.{literal-setting-is, literal-bound-is}
 use Rattle.listing.specs.declared.scan.Judged.{Judged}
 use Rattle.listing.specs.Literals.{key-low, key-high, decided-here}
 

@@ -12,7 +12,8 @@ use lib.ListN.{length, getD, set}
 use lib.Seq.{set-split}
 use borrow.Author.Tests.{eq-eqb, ne-eqb}
 use Rattle.meaning.specs.Rows.{Row, Sizes}
-use Rattle.books.specs.Put.{putAt, putAt-putAt, putAt-length}
+use Rattle.books.proofs.laws.Put.{putAt-putAt, putAt-length}
+use Rattle.books.specs.Inner.{putAt}
 use Rattle.listing.specs.declared.cursor.Cursor.{Cursor}
 use Rattle.listing.specs.declared.walk.Walk.{Walk}
 use Rattle.listing.specs.Cursors.{prefixOf}

@@ -24,7 +24,7 @@ use Rattle.meaning.proofs.Runs.{ended, Enough as EnoughRooms, run-whole, run-mo
 use Rattle.meaning.proofs.Alike.{alike-length}
 use Rattle.books.specs.declared.Reading.the-variants.{Book}
 use Rattle.books.specs.Format.{readOf}
-use Rattle.books.specs.Accepted.{headed}
+use Rattle.books.proofs.laws.Accepted.{headed}
 use Rattle.listing.specs.declared.cursor.Cursor.{Cursor}
 use Rattle.listing.specs.Cursors.{prefixOf, cursorOf, allZero, fits, clean, cursorOk}
 use Rattle.listing.specs.Prefixes.{prefix-cursor, begins-length}

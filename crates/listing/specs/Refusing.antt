@@ -14,8 +14,8 @@ use Rattle.books.specs.declared.Fault.{Fault}
 use Rattle.books.specs.declared.Reading.{Reading}
 use Rattle.books.specs.declared.Reading.the-variants.{Book, Faulty}
 use Rattle.books.specs.Format.{readOf}
-use Rattle.books.specs.Holds.{holds-start}
-use Rattle.books.specs.Accepted.{headed}
+use Rattle.books.proofs.laws.Holds.{holds-start}
+use Rattle.books.proofs.laws.Accepted.{headed}
 use Rattle.listing.specs.declared.cursor.Cursor.{Cursor}
 use Rattle.listing.specs.declared.paging.Outcome.the-variants.{BadCursor, NoRoom, BadBudget, Faulty as Unread}
 use Rattle.listing.specs.Sizes.{Limits, lent-limited}

@@ -9,7 +9,8 @@ use Rattle.meaning.specs.Lists.{All}
 use Rattle.meaning.specs.Rows.{Sizes}
 use Rattle.meaning.specs.Rules.{Rule, Literal, atMost, atLeast, bound, topOf, Fits, AllFit, Ordered}
 use Rattle.meaning.specs.Bytes.{ruleAt, endAt, rulesAt, placeAt}
-use Rattle.books.specs.Holds.{Holds, holds-good, holds-inside, holds-next}
+use Rattle.books.proofs.laws.Holds.{holds-good, holds-inside, holds-next}
+use Rattle.books.specs.Inner.{Holds}
 use Rattle.listing.specs.Sizes.{Limited}
 
 -- what the scan asks of the rule at place `at`: it ends inside the bytes, its literals stand in order, and each bound is below 64

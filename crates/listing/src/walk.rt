@@ -15,7 +15,7 @@ ghost use Prim.Native.Nat.{_+_, _*_, _-_, _≤_, _<_};
 ghost use lib.ListN.{length, drop};
 ghost use Rattle.meaning.specs.Bytes.{rulesIn, rulesAt};
 ghost use Rattle.meaning.specs.Listing.{dead};
-ghost use Rattle.books.specs.Put.{putAt};
+ghost use Rattle.books.specs.Inner.{putAt};
 ghost use Rattle.listing.specs.Cursors.{prefixOf};
 ghost use Rattle.listing.specs.Prefixes.{Plain, pushOf};
 ghost use Rattle.listing.specs.Standing.{AllStand};

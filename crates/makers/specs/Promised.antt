@@ -19,7 +19,7 @@ use Rattle.meaning.proofs.Encoded.{encode-rules}
 use Rattle.meaning.proofs.Flat.{rows-count}
 use Rattle.books.specs.declared.Reading.{Reading}
 use Rattle.books.specs.Format.{readOf}
-use Rattle.books.specs.Written.{written}
+use Rattle.books.proofs.laws.Written.{written}
 use Rattle.tables.proofs.laws.Promised.{checked-sound}
 use Rattle.makers.specs.declared.Made.{Made}
 use Rattle.makers.specs.declared.Made.the-variants.{Book}

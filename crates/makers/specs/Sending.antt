@@ -14,8 +14,9 @@ use Rattle.meaning.specs.Bytes.{encodeRule, encodeRules}
 use Rattle.hand.specs.declared.Hand.{Hand}
 use Rattle.hand.specs.Hand.{ruleIn, rule-length, Sane, Holding, sane-bytes}
 use Rattle.meaning.proofs.Encoded.{encodeRule-length}
-use Rattle.books.specs.Records.{Puts, ruleRecord, ruleRecord-is}
-use Rattle.books.specs.Put.{putAt, putIn, putAt-length, putAt-nothing, putAt-putAt, putIn-fits}
+use Rattle.books.proofs.laws.Records.{ruleRecord-is}
+use Rattle.books.proofs.laws.Put.{putAt-length, putAt-nothing, putAt-putAt, putIn-fits}
+use Rattle.books.specs.Inner.{putAt, putIn, Puts, ruleRecord}
 use Rattle.makers.specs.declared.sending.Tally.{Tally}
 
 -- how far a book has come, and the room that it is written to

@@ -12,8 +12,8 @@ use Rattle.meaning.specs.General.{general}
 use Rattle.meaning.specs.Families.{rulesFor}
 use Rattle.meaning.specs.Bytes.{encodeRules, encodeHead, encodeEnd, encode}
 use Rattle.meaning.proofs.Encoded.{encode-length}
-use Rattle.books.specs.Put.{putAt, putAt-length, putAt-putAt, putIn-fits}
-use Rattle.books.specs.Records.{Puts}
+use Rattle.books.proofs.laws.Put.{putAt-length, putAt-putAt, putIn-fits}
+use Rattle.books.specs.Inner.{putAt, Puts}
 use Rattle.makers.specs.declared.Made.{Made}
 use Rattle.makers.specs.declared.Made.the-variants.{Book, Room}
 use Rattle.makers.specs.declared.sending.Tally.{Tally}

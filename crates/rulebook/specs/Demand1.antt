@@ -26,8 +26,7 @@ use Rattle.books.specs.declared.Reading.{Reading}
 use Rattle.books.specs.declared.Reading.the-variants.{Book, Faulty}
 use Rattle.books.specs.Faults as faults
 use Rattle.books.specs.Format.{readOf}
-use Rattle.books.specs.First.{firstUnmet, firstOver}
-use Rattle.books.specs.Tested.{judgeOf, judgeRead, testedOf}
+use Rattle.books.specs.Tested.{judgeOf, judgeRead, testedOf, firstUnmet, firstOver}
 use Rattle.meaning.specs.Listing.{dead, page}
 use Rattle.listing.specs.declared.cursor.Cursor.{Cursor}
 use Rattle.listing.specs.declared.paging.Paged.{Paged}

@@ -21,9 +21,10 @@ use Rattle.meaning.proofs.Encoded.{encode-rules}
 use Rattle.books.specs.declared.Reading.the-variants.{Book}
 use Rattle.books.specs.declared.Tested.the-variants.{Permitted}
 use Rattle.books.specs.Format.{readOf}
-use Rattle.books.specs.Written as books
-use Rattle.books.specs.Accepted as accepted
-use Rattle.books.specs.Tested.{testedOf, tested-permitted}
+use Rattle.books.proofs.laws.Written as books
+use Rattle.books.proofs.laws.Accepted as accepted
+use Rattle.books.specs.Tested.{testedOf}
+use Rattle.books.proofs.laws.Tested.{tested-permitted}
 use Rattle.makers.specs.Made.{numberOf, rulesMade, bytesMade, openAs, madeOf}
 use Rattle.makers.specs.Cases.{Tested, Makes, flawed, unknown, unclosed, narrow, given, made-cases}
 use Rattle.makers.specs.Promised.{Grants, Gives, made-given, made-gives, made-general}

@@ -1,6 +1,6 @@
 -- `books::fields::field` meets its contract: each way out is a lemma of Fields.
 use native.Mathlib.Omega.{arith}
-use Rattle.books.specs.Fields.{field-cut, field-under, field-over, field-got}
+use Rattle.books.proofs.laws.Fields.{field-cut, field-under, field-over, field-got}
 use borrow.Author.Needs.{needs}
 use Rattle.books.proofs.fields.field.Statement.{statement}
 use Rattle.books.proofs.fields.field.Tie as tie

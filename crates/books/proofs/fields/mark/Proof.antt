@@ -1,6 +1,6 @@
 -- `books::fields::mark` meets its contract: each way out is a lemma of Fields.
 use native.Mathlib.Omega.{arith}
-use Rattle.books.specs.Fields.{mark-cut, mark-first, mark-second, mark-got}
+use Rattle.books.proofs.laws.Fields.{mark-cut, mark-first, mark-second, mark-got}
 use borrow.Author.Needs.{needs}
 use Rattle.books.proofs.fields.mark.Statement.{statement}
 use Rattle.books.proofs.fields.mark.Tie as tie

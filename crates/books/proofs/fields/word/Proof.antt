@@ -1,6 +1,6 @@
 -- `books::fields::word` meets its contract: each way out is a lemma of Fields.
 use native.Mathlib.Omega.{arith}
-use Rattle.books.specs.Fields.{word-cut, word-over, word-got}
+use Rattle.books.proofs.laws.Fields.{word-cut, word-over, word-got}
 use borrow.Author.Needs.{needs}
 use Rattle.books.proofs.fields.word.Statement.{statement}
 use Rattle.books.proofs.fields.word.Tie as tie

@@ -1,6 +1,6 @@
 -- `books::literals::bound` meets its contract: each way out is a lemma of Literals.
-use Rattle.books.specs.Limits.{size-some}
-use Rattle.books.specs.Literals.{bound-fault, bound-order}
+use Rattle.books.proofs.laws.Limits.{size-some}
+use Rattle.books.proofs.laws.Literals.{bound-fault, bound-order}
 use borrow.Author.Needs.{needs}
 use Rattle.books.proofs.literals.bound.Statement.{statement}
 use Rattle.books.proofs.literals.bound.Tie as tie

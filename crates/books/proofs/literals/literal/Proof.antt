@@ -1,6 +1,6 @@
 -- `books::literals::literal` meets its contract: each way out is a lemma of Literals.
 use native.Mathlib.Omega.{arith}
-use Rattle.books.specs.Literals.{literal-setting, literal-sign, literal-bound, sign-small, setting-inside}
+use Rattle.books.proofs.laws.Literals.{literal-setting, literal-sign, literal-bound, sign-small, setting-inside}
 use borrow.Author.Needs.{needs}
 use Rattle.books.proofs.literals.literal.Statement.{statement}
 use Rattle.books.proofs.literals.literal.Tie as tie

@@ -1,7 +1,7 @@
 -- `books::literals::literals` meets its contract. The invariant says that the whole answer is that of the literals left (LiteralsAt).
 use Prim.Native.Nat.{_-_}
 use native.Mathlib.Omega.{arith}
-use Rattle.books.specs.Literals.{LiteralsAt, literals-start, literals-fault, literals-on, literals-end}
+use Rattle.books.proofs.laws.Literals.{LiteralsAt, literals-start, literals-fault, literals-on, literals-end}
 use borrow.Author.Needs.{needs}
 use Rattle.books.proofs.literals.literals.Statement.{statement}
 use Rattle.books.proofs.literals.literals.Tie as tie

@@ -1,5 +1,5 @@
 -- `books::literals::ordered` meets its contract: each way out is a lemma of Literals.
-use Rattle.books.specs.Literals.{order-not, order-got}
+use Rattle.books.proofs.laws.Literals.{order-not, order-got}
 use borrow.Author.Needs.{needs}
 use Rattle.books.proofs.literals.ordered.Statement.{statement}
 use Rattle.books.proofs.literals.ordered.Tie as tie

@@ -1,5 +1,5 @@
 -- `books::literals::top` meets its contract: by cases on the sign.
-use Rattle.books.specs.Literals.{top-zero, top-one}
+use Rattle.books.proofs.laws.Literals.{top-zero, top-one}
 use borrow.Author.Needs.{needs}
 use Rattle.books.proofs.literals.top.Statement.{statement}
 use Rattle.books.proofs.literals.top.Tie as tie

@@ -1,5 +1,5 @@
 -- `books::part::count` meets its contract: by cases on the reading.
-use Rattle.books.specs.Part.{count-book, count-faulty}
+use Rattle.books.proofs.laws.Part.{count-book, count-faulty}
 use borrow.Author.Needs.{needs}
 use Rattle.books.proofs.part.count.Statement.{statement}
 use Rattle.books.proofs.part.count.Tie as tie

@@ -1,7 +1,7 @@
 -- `books::part::place` meets its contract. The invariant says that the place is that of the rules left to pass (Walk).
 use Prim.Native.Nat.{_-_}
 use native.Mathlib.Omega.{arith}
-use Rattle.books.specs.Part.{Walk, walk-start, walk-on, walk-end}
+use Rattle.books.proofs.laws.Part.{Walk, walk-start, walk-on, walk-end}
 use borrow.Author.Needs.{needs}
 use Rattle.books.proofs.part.place.Statement.{statement}
 use Rattle.books.proofs.part.place.Tie as tie

@@ -1,7 +1,7 @@
 -- `books::part::rule` meets its contract: the part is inside the book (part-inside), and these are its bytes (part-bytes).
 use native.Mathlib.Omega.{arith}
 use mathlib.Core.Path.{refl}
-use Rattle.books.specs.Part.{part-inside, part-place, part-bytes}
+use Rattle.books.proofs.laws.Part.{part-inside, part-place, part-bytes}
 use borrow.Author.Needs.{needs}
 use Rattle.books.proofs.part.rule.Statement.{statement}
 use Rattle.books.proofs.part.rule.Tie as tie

@@ -1,6 +1,6 @@
 -- `books::part::rule_part` meets its contract: by cases on the number and the count (where-some, where-none).
 use native.Mathlib.Omega.{arith}
-use Rattle.books.specs.Part.{where-some, where-none}
+use Rattle.books.proofs.laws.Part.{where-some, where-none}
 use borrow.Author.Needs.{needs}
 use Rattle.books.proofs.part.rule_part.Statement.{statement}
 use Rattle.books.proofs.part.rule_part.Tie as tie

@@ -1,5 +1,5 @@
 -- `books::reader::read` meets its contract: each way out is a lemma of Head.
-use Rattle.books.specs.Head.{read-mark, read-n, read-l, read-rest, read-sized}
+use Rattle.books.proofs.laws.Head.{read-mark, read-n, read-l, read-rest, read-sized}
 use borrow.Author.Needs.{needs}
 use Rattle.books.proofs.reader.read.Statement.{statement}
 use Rattle.books.proofs.reader.read.Tie as tie

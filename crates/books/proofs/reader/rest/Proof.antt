@@ -1,5 +1,5 @@
 -- `books::reader::rest` meets its contract: each way out is a lemma of Head.
-use Rattle.books.specs.Head.{rest-family, rest-count, rest-tail, rest-inside, head-inside}
+use Rattle.books.proofs.laws.Head.{rest-family, rest-count, rest-tail, rest-inside, head-inside}
 use borrow.Author.Needs.{needs}
 use Rattle.books.proofs.reader.rest.Statement.{statement}
 use Rattle.books.proofs.reader.rest.Tie as tie

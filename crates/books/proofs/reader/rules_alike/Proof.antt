@@ -1,6 +1,6 @@
 -- `books::reader::rules_alike` meets its contract: the array of sixteen sizes, cut at l, is the sizes of the head.
 use native.Mathlib.Omega.{arith}
-use Rattle.books.specs.Head.{sizes-length, sizes-good, rules-alike}
+use Rattle.books.proofs.laws.Head.{sizes-length, sizes-good, rules-alike}
 use borrow.Author.Needs.{needs}
 use Rattle.books.proofs.reader.rules_alike.Statement.{statement}
 use Rattle.books.proofs.reader.rules_alike.Tie as tie

@@ -1,5 +1,5 @@
 -- `books::reader::tail` meets its contract: each way out is a lemma of Head.
-use Rattle.books.specs.Head.{tail-fault, tail-inside, tail-mark, tail-more, tail-done}
+use Rattle.books.proofs.laws.Head.{tail-fault, tail-inside, tail-mark, tail-more, tail-done}
 use borrow.Author.Needs.{needs}
 use Rattle.books.proofs.reader.tail.Statement.{statement}
 use Rattle.books.proofs.reader.tail.Tie as tie

@@ -2,7 +2,7 @@
 use Prim.Native.Nat.{_-_}
 use native.Mathlib.Omega.{arith}
 use lib.ListN.{length}
-use Rattle.books.specs.Put.{Copied, copied-start, copied-on, copied-end}
+use Rattle.books.proofs.laws.Put.{Copied, copied-start, copied-on, copied-end}
 use borrow.Author.Needs.{needs}
 use Rattle.books.proofs.records.copy.Statement.{statement}
 use Rattle.books.proofs.records.copy.Tie as tie

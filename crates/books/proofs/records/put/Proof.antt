@@ -1,6 +1,6 @@
 -- `books::records::put` meets its contract: the bytes fit, or nothing is written.
 use native.Mathlib.Omega.{arith}
-use Rattle.books.specs.Records.{puts-nothing, puts-all}
+use Rattle.books.proofs.laws.Records.{puts-nothing, puts-all}
 use borrow.Author.Needs.{needs}
 use Rattle.books.proofs.records.put.Statement.{statement}
 use Rattle.books.proofs.records.put.Tie as tie

@@ -1,5 +1,5 @@
 -- `books::records::put_head` meets its contract: the seven numbers as bytes are the head (puts-head).
-use Rattle.books.specs.Records.{puts-head}
+use Rattle.books.proofs.laws.Records.{puts-head}
 use borrow.Author.Needs.{needs}
 use Rattle.books.proofs.records.put_head.Statement.{statement}
 use Rattle.books.proofs.records.put_head.Tie as tie

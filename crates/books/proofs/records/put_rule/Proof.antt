@@ -1,6 +1,6 @@
 -- `books::records::put_rule` meets its contract: the mark and the literals are written one after the other, or nothing is.
 use native.Mathlib.Omega.{arith}
-use Rattle.books.specs.Records.{puts-no-rule, puts-rule}
+use Rattle.books.proofs.laws.Records.{puts-no-rule, puts-rule}
 use borrow.Author.Needs.{needs}
 use Rattle.books.proofs.records.put_rule.Statement.{statement}
 use Rattle.books.proofs.records.put_rule.Tie as tie

@@ -1,6 +1,6 @@
 -- `books::rules::body` meets its contract: each way out is a lemma of Rules.
 use native.Mathlib.Omega.{arith}
-use Rattle.books.specs.Rules.{body-fault, body-inside, body-idle, body-family, body-got}
+use Rattle.books.proofs.laws.Rules.{body-fault, body-inside, body-idle, body-family, body-got}
 use borrow.Author.Needs.{needs}
 use Rattle.books.proofs.rules.body.Statement.{statement}
 use Rattle.books.proofs.rules.body.Tie as tie

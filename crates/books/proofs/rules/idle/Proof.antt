@@ -1,7 +1,7 @@
 -- `books::rules::idle` meets its contract. The invariant says that the whole answer is that of the literals left (IdleAt).
 use Prim.Native.Nat.{_-_}
 use native.Mathlib.Omega.{arith}
-use Rattle.books.specs.Idle.{IdleAt, idle-start, idle-found, idle-on, idle-none}
+use Rattle.books.proofs.laws.Idle.{IdleAt, idle-start, idle-found, idle-on, idle-none}
 use borrow.Author.Needs.{needs}
 use Rattle.books.proofs.rules.idle.Statement.{statement}
 use Rattle.books.proofs.rules.idle.Tie as tie

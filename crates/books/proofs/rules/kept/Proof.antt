@@ -1,6 +1,6 @@
 -- `books::rules::kept` meets its contract: by cases on the family.
 use native.Mathlib.Omega.{arith}
-use Rattle.books.specs.Signs.{family-general, family-bijunctive, family-horn, family-dual}
+use Rattle.books.proofs.laws.Signs.{family-general, family-bijunctive, family-horn, family-dual}
 use borrow.Author.Needs.{needs}
 use Rattle.books.proofs.rules.kept.Statement.{statement}
 use Rattle.books.proofs.rules.kept.Tie as tie

@@ -1,5 +1,5 @@
 -- `books::rules::negative` meets its contract: by cases on the sign.
-use Rattle.books.specs.Signs.{negative-one, negative-none}
+use Rattle.books.proofs.laws.Signs.{negative-one, negative-none}
 use borrow.Author.Needs.{needs}
 use Rattle.books.proofs.rules.negative.Statement.{statement}
 use Rattle.books.proofs.rules.negative.Tie as tie

@@ -1,7 +1,7 @@
 -- `books::rules::negatives` meets its contract. The invariant counts the literals passed (SignsAt).
 use Prim.Native.Nat.{_-_}
 use native.Mathlib.Omega.{arith}
-use Rattle.books.specs.Signs.{SignsAt, signs-start, signs-on, signs-end}
+use Rattle.books.proofs.laws.Signs.{SignsAt, signs-start, signs-on, signs-end}
 use borrow.Author.Needs.{needs}
 use Rattle.books.proofs.rules.negatives.Statement.{statement}
 use Rattle.books.proofs.rules.negatives.Tie as tie

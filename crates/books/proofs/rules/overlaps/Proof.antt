@@ -1,5 +1,5 @@
 -- `books::rules::overlaps` meets its contract: each way out is a lemma of Idle.
-use Rattle.books.specs.Idle.{overlap-positive, overlap-negative, overlap-other, overlap-same}
+use Rattle.books.proofs.laws.Idle.{overlap-positive, overlap-negative, overlap-other, overlap-same}
 use borrow.Author.Needs.{needs}
 use Rattle.books.proofs.rules.overlaps.Statement.{statement}
 use Rattle.books.proofs.rules.overlaps.Tie as tie

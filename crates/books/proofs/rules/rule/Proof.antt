@@ -1,5 +1,5 @@
 -- `books::rules::rule` meets its contract: each way out is a lemma of Rules.
-use Rattle.books.specs.Rules.{rule-mark, rule-count, rule-body, rule-inside}
+use Rattle.books.proofs.laws.Rules.{rule-mark, rule-count, rule-body, rule-inside}
 use borrow.Author.Needs.{needs}
 use Rattle.books.proofs.rules.rule.Statement.{statement}
 use Rattle.books.proofs.rules.rule.Tie as tie

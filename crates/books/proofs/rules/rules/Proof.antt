@@ -1,7 +1,7 @@
 -- `books::rules::rules` meets its contract. The invariant says that the whole answer is that of the rules left (RulesAt).
 use Prim.Native.Nat.{_-_}
 use native.Mathlib.Omega.{arith}
-use Rattle.books.specs.Rules.{RulesAt, rules-start, rules-fault, rules-on, rules-end}
+use Rattle.books.proofs.laws.Rules.{RulesAt, rules-start, rules-fault, rules-on, rules-end}
 use borrow.Author.Needs.{needs}
 use Rattle.books.proofs.rules.rules.Statement.{statement}
 use Rattle.books.proofs.rules.rules.Tie as tie

@@ -2,7 +2,7 @@
 use Prim.Native.Nat.{_-_}
 use native.Mathlib.Omega.{arith}
 use lib.ListN.{length}
-use Rattle.books.specs.Judged.{OverAt, over-start, over-found, over-on, over-end}
+use Rattle.books.proofs.laws.Judged.{OverAt, over-start, over-found, over-on, over-end}
 use borrow.Author.Needs.{needs}
 use Rattle.books.proofs.tester.first_over.Statement.{statement}
 use Rattle.books.proofs.tester.first_over.Tie as tie

@@ -1,6 +1,6 @@
 -- `books::tester::first_unmet` meets its contract. The invariant says that the whole answer is that of the rules left (UnmetAt).
 use Prim.Native.Nat.{_-_}
-use Rattle.books.specs.Asked.{UnmetAt, unmet-start, unmet-ask, unmet-inside, unmet-found, unmet-on, unmet-end}
+use Rattle.books.proofs.laws.Asked.{UnmetAt, unmet-start, unmet-ask, unmet-inside, unmet-found, unmet-on, unmet-end}
 use borrow.Author.Tests.{not-true, not-false}
 use borrow.Author.Needs.{needs}
 use Rattle.books.proofs.tester.first_unmet.Statement.{statement}

@@ -1,5 +1,5 @@
 -- `books::tester::judge` meets its contract: each way out is a lemma of Judged.
-use Rattle.books.specs.Judged.{judge-length, judge-testable, judge-value, judge-unmet, judge-met}
+use Rattle.books.proofs.laws.Judged.{judge-length, judge-testable, judge-value, judge-unmet, judge-met}
 use borrow.Author.Needs.{needs}
 use Rattle.books.proofs.tester.judge.Statement.{statement}
 use Rattle.books.proofs.tester.judge.Tie as tie

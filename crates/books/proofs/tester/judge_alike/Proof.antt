@@ -1,6 +1,6 @@
 -- `books::tester::judge_alike` meets its contract: the array of sixteen sizes, cut at l, is the sizes of the head.
-use Rattle.books.specs.Head.{sizes-length}
-use Rattle.books.specs.Judged.{walkable-alike, judge-alike}
+use Rattle.books.proofs.laws.Head.{sizes-length}
+use Rattle.books.proofs.laws.Judged.{walkable-alike, judge-alike}
 use borrow.Author.Needs.{needs}
 use Rattle.books.proofs.tester.judge_alike.Statement.{statement}
 use Rattle.books.proofs.tester.judge_alike.Tie as tie

@@ -1,5 +1,5 @@
 -- `books::tester::test` meets its contract: by cases on the reading.
-use Rattle.books.specs.Judged.{test-faulty, test-sized, test-walkable, test-judged}
+use Rattle.books.proofs.laws.Judged.{test-faulty, test-sized, test-walkable, test-judged}
 use borrow.Author.Needs.{needs}
 use Rattle.books.proofs.tester.test.Statement.{statement}
 use Rattle.books.proofs.tester.test.Tie as tie

@@ -1,7 +1,7 @@
 -- `books::walk::one_holds` meets its contract. The invariant says that the whole answer is that of the literals left (MetAt).
 use Prim.Native.Nat.{_-_}
 use native.Mathlib.Omega.{arith}
-use Rattle.books.specs.Asked.{MetAt, met-start, met-inside, met-setting, met-found, met-on, met-none}
+use Rattle.books.proofs.laws.Asked.{MetAt, met-start, met-inside, met-setting, met-found, met-on, met-none}
 use borrow.Author.Needs.{needs}
 use Rattle.books.proofs.walk.one_holds.Statement.{statement}
 use Rattle.books.proofs.walk.one_holds.Tie as tie

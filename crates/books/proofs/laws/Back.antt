@@ -9,9 +9,9 @@ use Rattle.meaning.proofs.Literals.{literals-length, literal-parts, three-bytes
 use Rattle.meaning.specs.Bytes.{encodeLiterals, encodeRule, encodeRules, literalsAt, ruleAt, endAt, rulesAt, placeAt}
 use Rattle.books.specs.declared.Got.the-variants.{At}
 use Rattle.books.specs.Format.{markOf, fieldOf, literalOf, literalsOf, bodyOf, ruleOf, rulesOf}
-use Rattle.books.specs.Fields.{field-tells}
-use Rattle.books.specs.Literals.{literal-tells, chain}
-use Rattle.books.specs.Rules.{rule-tells}
+use Rattle.books.proofs.laws.Fields.{field-tells}
+use Rattle.books.proofs.laws.Literals.{literal-tells, chain}
+use Rattle.books.proofs.laws.Rules.{rule-tells}
 
 literals-encoded : (b ns : List ℕ) (from least p k e : ℕ) → literalsOf b ns from least p k ≡ At e → drop p b ≡ encodeLiterals (literalsAt b p k) ++ drop (p + 3 * k) b
 unfolding literalsOf literalsAt encodeLiterals

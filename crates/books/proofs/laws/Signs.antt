@@ -9,13 +9,9 @@ use mathlib.Core.List.{List, [], _∷_}
 use lib.Dec.{ltb}
 use lib.ListN.{length, getD}
 use Rattle.meaning.specs.Rules.{Rule, atMost, atLeast, low, high, scarce, scarces, horn, bijunctive, inFamily}
+use Rattle.meaning.specs.Bytes.{literal, literalsAt}
 use Rattle.meaning.proofs.Literals.{literals-length}
-use Rattle.meaning.specs.Bytes.{literal, literalAt, literalsAt}
-
--- ---- one literal: 1 if it is negative, else 0
-pub record NegativeAt (b : List ℕ) (p r : ℕ) : Type 0 where
-  pub is : r ≡ cond (scarce high (literalAt b p)) 1 0
-  pub small : r ≤ 1
+use Rattle.books.specs.Inner.{NegativeAt, Signs}
 
 module _ (b : List ℕ) (p : ℕ) where
   pub negative-one : getD b (p + 1) 0 ≡ 0 → NegativeAt b p 1
@@ -36,11 +32,6 @@ pub record SignsAt (b : List ℕ) (start c p i k : ℕ) : Type 0 where
   pub place : p ≡ start + 3 * i
   pub few : k ≤ i
   pub short : i ≤ c
-
--- k of the c literals are negative
-pub record Signs (b : List ℕ) (start c k : ℕ) : Type 0 where
-  pub count : k ≡ scarces high (literalsAt b start c)
-  pub few : k ≤ c
 
 module _ (b : List ℕ) (start c : ℕ) where
   pub signs-start : SignsAt b start c start 0 0

@@ -3,25 +3,15 @@ use Prim.Native.Nat.{ℕ, zero, suc, _≤_, _<_}
 use native.Mathlib.Omega.{arith}
 use mathlib.Core.Path.{_≡_, refl, ap}
 use mathlib.Core.Logic.{_↔_}
-use mathlib.Core.Bool.{true, false, cond}
+use mathlib.Core.Bool.{true, false}
 use mathlib.Core.List.{List, [], _∷_}
 use lib.Dec.{T, ltb}
 use lib.ListN.{length, getD}
 use borrow.Author.Tests.{ltb-true, ltb-false, lt-ltb, le-ltb}
-use Rattle.meaning.proofs.Tests.{case, is, isnt, yes-of}
 use Rattle.meaning.specs.Rows.{Row, Sizes, at, within}
 use Rattle.meaning.specs.Rules.{Rule, met, allMet}
-
--- the number of the first rule not met; the number of rules, where all are met
-unfoldable pub firstUnmet : List Rule → Row → ℕ
-firstUnmet [] x = 0
-firstUnmet (r ∷ rs) x = cond (met r x) (suc (firstUnmet rs x)) 0
-
--- the place of the first value that is not below its setting's size; the number of values, where all are
-unfoldable pub firstOver : Sizes → Row → ℕ
-firstOver ns [] = 0
-firstOver [] (v ∷ x) = 0
-firstOver (n ∷ ns) (v ∷ x) = cond (ltb v n) (suc (firstOver ns x)) 0
+use Rattle.meaning.proofs.Tests.{case, is, isnt, yes-of}
+use Rattle.books.specs.Tested.{firstUnmet, firstOver}
 
 -- ---- rules
 

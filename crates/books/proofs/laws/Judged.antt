@@ -9,20 +9,19 @@ use lib.ListN.{length, getD, take, drop, replicate}
 use lib.Seq.{drop-cons}
 use borrow.Author.Tests.{lt-ltb, le-ltb, eq-eqb, ne-eqb}
 use Rattle.meaning.specs.Rows.{Row, Sizes, alike, at}
-use Rattle.meaning.proofs.Alike.{alike-lent}
 use Rattle.meaning.specs.Bytes.{rulesAt}
+use Rattle.meaning.proofs.Alike.{alike-lent}
 use Rattle.books.specs.declared.Fault.{Fault}
 use Rattle.books.specs.declared.Reading.{Reading}
 use Rattle.books.specs.declared.Reading.the-variants.{Book, Faulty}
 use Rattle.books.specs.declared.Tested.{Tested}
 use Rattle.books.specs.declared.Tested.the-variants.{Permitted, NotMet, Length, Value, Faulty as Refused}
 use Rattle.books.specs.Format.{readOf}
-use Rattle.books.specs.Limits.{Sized}
-use Rattle.books.specs.Accepted.{headed, rulesAt-length}
-use Rattle.books.specs.Holds.{Holds, holds-start}
-use Rattle.books.specs.First.{firstUnmet, firstOver, firstOver-most, firstOver-below, firstOver-not}
-use Rattle.books.specs.Asked.{Testable}
-use Rattle.books.specs.Tested.{judgeOf, testedOf}
+use Rattle.books.specs.Inner.{Sized, Testable, Walkable}
+use Rattle.books.specs.Tested.{judgeOf, testedOf, firstUnmet, firstOver}
+use Rattle.books.proofs.laws.Accepted.{headed, rulesAt-length}
+use Rattle.books.proofs.laws.Holds.{holds-start}
+use Rattle.books.proofs.laws.First.{firstOver-most, firstOver-below, firstOver-not}
 
 -- ---- the loop over the values: the i before are below their sizes
 pub record OverAt (ns : Sizes) (x : Row) (i : ℕ) : Type 0 where
@@ -53,11 +52,6 @@ module _ (ns : Sizes) (x : Row) where
     over-end h = omega (arith, a .whole, a .short, firstOver-most ns x)
 
 -- ---- the ways out
-
--- k rules from place 7 on, over these sizes
-pub record Walkable (b : List ℕ) (ns : Sizes) (k : ℕ) : Type 0 where
-  pub family : ℕ
-  pub holds : Holds b ns family 7 k
 
 module _ (b : List ℕ) (ns : Sizes) (k : ℕ) (x : Row) where
   pub judge-length : length x ≢ length ns → Length ≡ judgeOf ns (rulesAt b 7 k) x

@@ -9,9 +9,9 @@ use Rattle.meaning.proofs.Literals.{one-byte, three-bytes}
 use Rattle.meaning.specs.Bytes.{encodeRules, encodeEnd, encode, WellFormed, endAt, rulesAt, wordAt, rulesIn}
 use Rattle.books.specs.declared.Reading.the-variants.{Book}
 use Rattle.books.specs.Format.{readOf}
-use Rattle.books.specs.Fields.{mark-tells, field-tells, word-tells}
-use Rattle.books.specs.Whole.{book-tells}
-use Rattle.books.specs.Holds.{holds-start}
+use Rattle.books.proofs.laws.Fields.{mark-tells, field-tells, word-tells}
+use Rattle.books.proofs.laws.Whole.{book-tells}
+use Rattle.books.proofs.laws.Holds.{holds-start}
 
 start : (b : List ℕ) → 7 ≤ length b → b ≡ getD b 0 0 ∷ getD b 1 0 ∷ getD b 2 0 ∷ getD b 3 0 ∷ getD b 4 0 ∷ getD b 5 0 ∷ getD b 6 0 ∷ drop 7 b
 start b h =

@@ -10,12 +10,7 @@ use lib.ListN.{getD}
 use borrow.Author.Tests.{eq-eqb, ne-eqb}
 use Rattle.meaning.specs.Rules.{Literal, Rule, atMost, atLeast, covers, overlap, overlaps, idle, key, Ordered}
 use Rattle.meaning.specs.Bytes.{literal, literalAt, literalsAt}
-
--- some literal overlaps with the one after it
-unfoldable pub idleNext : Rule → Bool
-idleNext [] = false
-idleNext (c ∷ []) = false
-idleNext (c ∷ d ∷ r) = overlap c d || idleNext (d ∷ r)
+use Rattle.books.specs.Inner.{idleNext}
 
 -- ---- it says the same as idle
 

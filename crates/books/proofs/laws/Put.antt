@@ -4,20 +4,11 @@ use native.Mathlib.Nat.{add-zero}
 use native.Mathlib.Numerals.{add-one}
 use native.Mathlib.Omega.{arith}
 use mathlib.Core.Path.{_≡_, refl, sym, ap, _∙_}
-use mathlib.Core.Bool.{cond}
 use mathlib.Core.List.{List, [], _++_, append-assoc}
-use lib.Dec.{leb}
 use lib.ListN.{length, getD, take, drop, set, length-append, length-take, length-drop, length-set, take-append-drop}
 use lib.Seq.{take-at, take-length, drop-at, drop-drop, length-take-le, paste, paste-zero, paste-suc}
 use borrow.Author.Tests.{le-leb, lt-leb}
-
--- the bytes written over the old ones from `at` on
-unfoldable pub putAt : List ℕ → ℕ → List ℕ → List ℕ
-putAt old at bytes = take at old ++ (bytes ++ drop (at + length bytes) old)
-
--- the same where they fit, else nothing is written
-unfoldable pub putIn : List ℕ → ℕ → List ℕ → List ℕ
-putIn old at bytes = cond (leb (at + length bytes) (length old)) (putAt old at bytes) old
+use Rattle.books.specs.Inner.{putAt, putIn}
 
 -- ---- laws
 

@@ -7,16 +7,8 @@ use lib.ListN.{length}
 use Rattle.meaning.specs.Rules.{Rule}
 use Rattle.meaning.specs.Bytes.{encodeLiterals, encodeRule, encodeHead}
 use Rattle.meaning.proofs.Encoded.{encodeLiterals-length}
-use Rattle.books.specs.Put.{putAt, putIn, putAt-putAt, putIn-fits, putIn-not}
-
--- what a writer of a record tells: what the room holds then, and the place after the record, whether or not it fits
-pub record Puts (old new : List ℕ) (at : ℕ) (bytes : List ℕ) (next : ℕ) : Type 0 where
-  pub room : new ≡ putIn old at bytes
-  pub next-is : next ≡ at + length bytes
-
--- a rule's record, from the bytes of its literals
-unfoldable pub ruleRecord : List ℕ → List ℕ
-ruleRecord literals = 82 ∷ 85 ∷ length literals / 3 ∷ literals
+use Rattle.books.specs.Inner.{putAt, Puts, ruleRecord}
+use Rattle.books.proofs.laws.Put.{putAt-putAt, putIn-fits, putIn-not}
 
 pub ruleRecord-is : (r : Rule) → ruleRecord (encodeLiterals r) ≡ encodeRule r
 unfolding ruleRecord encodeRule

@@ -14,9 +14,9 @@ use Rattle.books.specs.declared.Got.the-variants.{At, No}
 use Rattle.books.specs.declared.Reading.{Reading}
 use Rattle.books.specs.declared.Reading.the-variants.{Book, Faulty}
 use Rattle.books.specs.Format.{markOf, fieldOf, wordOf, rulesOf, tailOf, restOf, readOf}
-use Rattle.books.specs.Fields.{field-tells, word-tells}
-use Rattle.books.specs.Limits.{Sized, Limits}
-use Rattle.books.specs.Rules.{rules-inside}
+use Rattle.books.proofs.laws.Fields.{field-tells, word-tells}
+use Rattle.books.specs.Inner.{Sized, Limits}
+use Rattle.books.proofs.laws.Rules.{rules-inside}
 
 -- ---- the sizes of this edition, lent
 pub sizes-good : (n l m : ℕ) → Sized n l → m ≡ n → Limits (take l (replicate 16 m))

@@ -12,7 +12,7 @@ use Rattle.meaning.proofs.Encoded.{Stands, stands, literals-stand, rule-stands,
 use Rattle.books.specs.declared.Got.the-variants.{At}
 use Rattle.books.specs.declared.Reading.the-variants.{Book}
 use Rattle.books.specs.Format.{markOf, fieldOf, orderOf, boundOf, literalOf, literalsOf, bodyOf, ruleOf, rulesOf, tailOf, restOf, readOf}
-use Rattle.books.specs.Fields.{mark-got, field-got, word-got}
+use Rattle.books.proofs.laws.Fields.{mark-got, field-got, word-got}
 
 -- ---- a field that stands there is got
 

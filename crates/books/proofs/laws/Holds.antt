@@ -8,21 +8,16 @@ use mathlib.Core.List.{List, [], _++_, append-assoc}
 use lib.ListN.{length, getD, take, drop, drop-of-length-le}
 use lib.Seq.{take-at}
 use Rattle.meaning.specs.Rows.{Sizes, alike}
-use Rattle.meaning.specs.Rules.{setting, bound, Fits, AllFit, Good, AllGood}
-use Rattle.meaning.proofs.Literals.{two-bytes}
+use Rattle.meaning.specs.Rules.{setting, bound, Fits, AllFit, Good}
 use Rattle.meaning.specs.Bytes.{literal, literalAt, literalsAt, ruleAt, endAt, rulesAt, placeAt, encodeRule, encodeRules, encodeEnd}
+use Rattle.meaning.proofs.Literals.{two-bytes}
 use Rattle.meaning.proofs.Encoded.{rule-stands}
 use Rattle.books.specs.declared.Reading.the-variants.{Book}
 use Rattle.books.specs.Format.{readOf}
-use Rattle.books.specs.Fields.{mark-tells}
-use Rattle.books.specs.Back.{rules-tell}
-use Rattle.books.specs.Whole.{book-tells}
-
--- from place p on stand k good rules, then the end, and nothing more
-pub record Holds (b : List ℕ) (ns : Sizes) (family p k : ℕ) : Type 0 where
-  pub good : AllGood ns family (rulesAt b p k)
-  pub inside : placeAt b p k + 2 ≤ length b
-  pub bytes : drop p b ≡ encodeRules (rulesAt b p k) ++ encodeEnd
+use Rattle.books.specs.Inner.{Holds}
+use Rattle.books.proofs.laws.Fields.{mark-tells}
+use Rattle.books.proofs.laws.Back.{rules-tell}
+use Rattle.books.proofs.laws.Whole.{book-tells}
 
 -- ---- the start
 

@@ -6,18 +6,13 @@ use mathlib.Core.Path.{_≡_, sym, _∙_}
 use mathlib.Core.Bool.{Bool, true, false, _||_}
 use mathlib.Core.List.{List, _∷_}
 use lib.ListN.{length, getD}
-use Rattle.meaning.specs.Rows.{Row, Sizes, at}
-use Rattle.meaning.specs.Rules.{holds, met, AllFit}
+use Rattle.meaning.specs.Rows.{Row, at}
+use Rattle.meaning.specs.Rules.{holds, met}
 use Rattle.meaning.specs.Bytes.{literalAt, literalsAt, ruleAt, endAt, rulesAt}
-use Rattle.books.specs.Holds.{Holds, holds-good, holds-inside, holds-on, setting-at}
-use Rattle.books.specs.First.{firstUnmet, firstUnmet-met, firstUnmet-not}
-
--- ---- c literals from `start` on that may be asked of x: they are inside the book, on settings that x has
-pub record Askable (b : List ℕ) (start c : ℕ) (x : Row) : Type 0 where
-  pub ns : Sizes
-  pub inside : start + 3 * c ≤ length b
-  pub fit : AllFit ns (literalsAt b start c)
-  pub long : length x ≡ length ns
+use Rattle.books.specs.Tested.{firstUnmet}
+use Rattle.books.specs.Inner.{Askable, Testable}
+use Rattle.books.proofs.laws.Holds.{holds-good, holds-inside, holds-on, setting-at}
+use Rattle.books.proofs.laws.First.{firstUnmet-met, firstUnmet-not}
 
 -- the loop: none of the i literals before p holds
 pub record MetAt (b : List ℕ) (start c : ℕ) (x : Row) (p i : ℕ) : Type 0 where
@@ -49,13 +44,6 @@ module _ (b : List ℕ) (start c : ℕ) (x : Row) where
     pub met-none : c ≤ i → false ≡ met (literalsAt b start c) x
     unfolding met literalsAt
     met-none h = let e : c - i ≡ 0 = omega arith in sym (a .whole ∙ rw e)
-
--- ---- k rules from p on that may be asked of x
-pub record Testable (b : List ℕ) (x : Row) (p k : ℕ) : Type 0 where
-  pub ns : Sizes
-  pub family : ℕ
-  pub long : length x ≡ length ns
-  pub holds : Holds b ns family p k
 
 -- the loop: the i rules before p are met
 pub record UnmetAt (b : List ℕ) (x : Row) (k p i : ℕ) : Type 0 where

@@ -17,7 +17,7 @@ use Rattle.books.specs.declared.Got.the-variants.{At, No}
 use Rattle.meaning.specs.Rules.{topOf, keyOf, key, Fits, AllFit, Ordered}
 use Rattle.meaning.specs.Bytes.{literal, literalAt, literalsAt}
 use Rattle.books.specs.Format.{fieldOf, orderOf, boundOf, literalOf, literalsOf, _>>=_}
-use Rattle.books.specs.Fields.{no-number, FieldGot, field-tells}
+use Rattle.books.proofs.laws.Fields.{no-number, FieldGot, field-tells}
 
 -- ---- where a bound stops: its two ways
 pub top-zero : (n g : ℕ) → g ≡ 0 → n - 1 ≡ topOf n g

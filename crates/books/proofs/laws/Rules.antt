@@ -14,9 +14,10 @@ use Rattle.meaning.specs.Rules.{idle, inFamily, Good}
 use Rattle.meaning.proofs.Literals.{literals-length}
 use Rattle.meaning.specs.Bytes.{literalsAt, ruleAt, endAt}
 use Rattle.books.specs.Format.{markOf, fieldOf, literalsOf, bodyOf, ruleOf, rulesOf, _>>=_}
-use Rattle.books.specs.Fields.{no-number, mark-tells, field-tells, MarkGot, FieldGot}
-use Rattle.books.specs.Literals.{literals-tell, chain}
-use Rattle.books.specs.Idle.{idleNext, idle-next}
+use Rattle.books.proofs.laws.Fields.{no-number, mark-tells, field-tells, MarkGot, FieldGot}
+use Rattle.books.proofs.laws.Literals.{literals-tell, chain}
+use Rattle.books.proofs.laws.Idle.{idle-next}
+use Rattle.books.specs.Inner.{idleNext}
 
 -- ---- the body of a rule
 module _ (b ns : List ℕ) (family from c : ℕ) where
