@@ -1,12 +1,1 @@
-pub mod Hand
-pub mod Known
-pub mod Asked
-pub mod Number
-pub mod Change
-pub mod Pass
-pub mod Sides
-pub mod Joined
-pub mod Chosen
-pub mod Counts
-pub mod Counted
-pub mod Reduced
+pub mod Inner

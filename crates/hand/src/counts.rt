@@ -14,12 +14,7 @@ ghost use Rattle.meaning.specs.Rows.{rowsOf};
 ghost use Rattle.meaning.specs.Rules.{holds};
 ghost use Rattle.meaning.specs.Bytes.{literalAt, literalsAt};
 ghost use Rattle.meaning.specs.Families.{trim};
-ghost use Rattle.hand.specs.Hand.{ruleIn, Sane, Holding};
-ghost use Rattle.hand.specs.Known.{Known, Ready};
-ghost use Rattle.hand.specs.Change.{change};
-ghost use Rattle.hand.specs.Number.{one, number};
-ghost use Rattle.hand.specs.Counts.{counting, lowering, spare};
-ghost use Rattle.hand.specs.Counted.{Settled};
+ghost use Rattle.hand.specs.Inner.{ruleIn, Sane, Holding, Known, Ready, change, one, number, counting, lowering, spare, Settled};
 
 // 1 if the literal at `p` holds in the row, 0 if not.
 fn one(bytes: &[u8; 96], p: usize, row: &[u8]) -> u8

@@ -11,8 +11,7 @@ ghost use Prim.Native.Nat.{_+_, _*_, _≤_, _<_};
 ghost use Rattle.meaning.specs.Rows.{rowsOf};
 ghost use Rattle.meaning.specs.Bytes.{literal};
 ghost use Rattle.meaning.specs.Families.{reduceFor};
-ghost use Rattle.hand.specs.Hand.{ruleIn, Sane, Holding};
-ghost use Rattle.hand.specs.Known.{Ready};
+ghost use Rattle.hand.specs.Inner.{ruleIn, Sane, Holding, Ready};
 
 // Three bytes a literal: setting, sign (0 at most, 1 at least), bound. At most 32 of them.
 pub struct Hand {

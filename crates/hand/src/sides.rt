@@ -15,12 +15,7 @@ ghost use Rattle.meaning.specs.Rows.{rowsOf};
 ghost use Rattle.meaning.specs.Rules.{scarce, scarces, met};
 ghost use Rattle.meaning.specs.Bytes.{literalAt, literalsAt};
 ghost use Rattle.meaning.specs.Families.{pick, join, extreme, keepFor, reduce};
-ghost use Rattle.hand.specs.Hand.{ruleIn, Sane, Holding};
-ghost use Rattle.hand.specs.Known.{Known, Ready};
-ghost use Rattle.hand.specs.Number.{one};
-ghost use Rattle.hand.specs.Sides.{side};
-ghost use Rattle.hand.specs.Joined.{rowIn, Joins, picked};
-ghost use Rattle.hand.specs.Chosen.{chosen};
+ghost use Rattle.hand.specs.Inner.{ruleIn, Sane, Holding, Known, Ready, one, side, rowIn, Joins, picked, chosen};
 
 // What rows combine to, setting by setting: nothing where there is none of them.
 pub struct Joined {

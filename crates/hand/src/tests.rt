@@ -6,7 +6,7 @@ ghost use Prim.Native.Nat.{_+_, _*_, _≤_, _<_};
 ghost use lib.ListN.{length, getD};
 ghost use Rattle.meaning.specs.Rules.{holds, met};
 ghost use Rattle.meaning.specs.Bytes.{literalAt, literalsAt};
-ghost use Rattle.hand.specs.Known.{Known};
+ghost use Rattle.hand.specs.Inner.{Known};
 
 // A byte as an index.
 pub fn wide(x: u8) -> usize

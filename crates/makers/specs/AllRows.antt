@@ -12,7 +12,7 @@ use Rattle.meaning.specs.General.{rowRules, general}
 use Rattle.meaning.proofs.Flat.{rows-count}
 use Rattle.meaning.proofs.Made.{reduceFor-part}
 use Rattle.hand.specs.declared.Hand.{Hand}
-use Rattle.hand.specs.Hand.{ruleIn, Holding}
+use Rattle.hand.specs.Inner.{ruleIn, Holding}
 use Rattle.makers.specs.declared.sending.Tally.{Tally}
 use Rattle.makers.specs.Sending.{State, send, send-more, sends, sendsFor, sendsFor-append, Countable, Sent}
 use Rattle.makers.specs.Edges.{each-on, each-end}

@@ -14,7 +14,8 @@ use Rattle.meaning.specs.Rows.{Row, Sizes, at}
 use Rattle.meaning.specs.Rules.{Literal, atMost, atLeast, Rule}
 use Rattle.meaning.specs.General.{differs, earlier}
 use Rattle.hand.specs.declared.Hand.{Hand}
-use Rattle.hand.specs.Hand.{ruleIn, rule-length, Sane, Holding}
+use Rattle.hand.proofs.laws.Hand.{rule-length}
+use Rattle.hand.specs.Inner.{ruleIn, Sane, Holding}
 
 -- ---- a hand
 

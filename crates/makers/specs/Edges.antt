@@ -16,8 +16,7 @@ use Rattle.meaning.specs.Rules.{Literal, atMost, atLeast, Rule, setting}
 use Rattle.meaning.specs.General.{differs, earlier, leftAt, rightAt}
 use Rattle.meaning.specs.Bytes.{literal}
 use Rattle.hand.specs.declared.Hand.{Hand}
-use Rattle.hand.specs.Known.{Known, Ready}
-use Rattle.hand.specs.Hand.{ruleIn, Holding}
+use Rattle.hand.specs.Inner.{ruleIn, Holding, Known, Ready}
 use Rattle.makers.specs.declared.sending.Tally.{Tally}
 use Rattle.makers.specs.Sending.{sends, sendsFor, sendsFor-append, Countable, Sent}
 use Rattle.makers.specs.Earlier.{Spare, earlier-few, earlier-on}

@@ -12,8 +12,8 @@ use Rattle.meaning.specs.Rows.{Row, Sizes, at, rowsOf}
 use Rattle.meaning.specs.Rules.{atMost, atLeast, setting}
 use Rattle.meaning.specs.General.{earlier, midAt}
 use Rattle.hand.specs.declared.Hand.{Hand}
-use Rattle.hand.specs.Known.{Ready}
-use Rattle.hand.specs.Hand.{ruleIn, rule-length, Holding}
+use Rattle.hand.proofs.laws.Hand.{rule-length}
+use Rattle.hand.specs.Inner.{ruleIn, Holding, Ready}
 use Rattle.makers.specs.declared.sending.Tally.{Tally}
 use Rattle.makers.specs.Sending.{Sent}
 use Rattle.makers.specs.Earlier.{Spare, held-count, earlier-few}

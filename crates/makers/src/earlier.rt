@@ -7,7 +7,7 @@ ghost use lib.ListN.{length};
 ghost use Rattle.meaning.specs.Lists.{opt};
 ghost use Rattle.meaning.specs.Rules.{atMost, atLeast};
 ghost use Rattle.meaning.specs.General.{differs, earlier};
-ghost use Rattle.hand.specs.Hand.{ruleIn, Holding};
+ghost use Rattle.hand.specs.Inner.{ruleIn, Holding};
 ghost use Rattle.makers.specs.Earlier.{Spare};
 use hand::Hand;
 use hand::empty;

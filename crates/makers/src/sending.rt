@@ -1,7 +1,7 @@
 // Sending rules to a book: its length and number of rules so far, and the record of each, written where it fits.
 ghost use mathlib.Core.Path.{_≡_};
 ghost use Prim.Native.Nat.{_≤_};
-ghost use Rattle.hand.specs.Hand.{ruleIn, Sane};
+ghost use Rattle.hand.specs.Inner.{ruleIn, Sane};
 ghost use Rattle.makers.specs.Sending.{State, send};
 use books::put_rule;
 use hand::Hand;

@@ -1,5 +1,5 @@
 -- `hand::push` meets its contract. The three stores are one literal more (`pushed`).
-use Rattle.hand.specs.Hand.{pushed}
+use Rattle.hand.proofs.laws.Hand.{pushed}
 use borrow.Author.Needs.{needs}
 use Rattle.hand.proofs.push.Statement.{statement}
 use Rattle.hand.proofs.push.Tie as tie

@@ -1,5 +1,5 @@
 -- `hand::reduced` meets its contract. By cases on the family (Reduced).
-use Rattle.hand.specs.Reduced.{reduced-general, reduced-horn, reduced-dual, reduced-trim}
+use Rattle.hand.proofs.laws.Reduced.{reduced-general, reduced-horn, reduced-dual, reduced-trim}
 use borrow.Author.Needs.{needs}
 use Rattle.hand.proofs.reduced.Statement.{statement}
 use Rattle.hand.proofs.reduced.Tie as tie

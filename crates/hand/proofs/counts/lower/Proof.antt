@@ -3,9 +3,9 @@ use borrow.Author.Needs.{needs}
 use Prim.Native.Nat.{_-_}
 use lib.ListN.{length}
 use Rattle.meaning.specs.Bytes.{literalAt}
-use Rattle.hand.specs.Pass.{part-below}
-use Rattle.hand.specs.Counts.{lowering}
-use Rattle.hand.specs.Counted.{ChangeAt, change-start, lower-turn, change-end, pass-room}
+use Rattle.hand.proofs.laws.Pass.{part-below}
+use Rattle.hand.specs.Inner.{lowering}
+use Rattle.hand.proofs.laws.Counted.{ChangeAt, change-start, lower-turn, change-end, pass-room}
 use Rattle.hand.proofs.counts.lower.Statement.{statement}
 use Rattle.hand.proofs.counts.lower.Tie as tie
 

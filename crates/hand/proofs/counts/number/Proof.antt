@@ -4,8 +4,8 @@ use Prim.Native.Nat.{_-_}
 use native.Mathlib.Omega.{arith}
 use lib.ListN.{length}
 use Rattle.meaning.specs.Rules.{holds}
-use Rattle.hand.specs.Known.{at-fits, Left, left-start, left-on, left-known}
-use Rattle.hand.specs.Number.{NumberAt, number-start, number-few, number-on, number-end}
+use Rattle.hand.proofs.laws.Known.{at-fits, Left, left-start, left-on, left-known}
+use Rattle.hand.proofs.laws.Number.{NumberAt, number-start, number-few, number-on, number-end}
 use Rattle.hand.proofs.counts.number.Statement.{statement}
 use Rattle.hand.proofs.counts.number.Tie as tie
 

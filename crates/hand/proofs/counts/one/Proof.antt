@@ -1,5 +1,5 @@
 -- `hand::counts::one` meets its contract. By cases on the test (Number).
-use Rattle.hand.specs.Number.{one-yes, one-no}
+use Rattle.hand.proofs.laws.Number.{one-yes, one-no}
 use borrow.Author.Needs.{needs}
 use Rattle.hand.proofs.counts.one.Statement.{statement}
 use Rattle.hand.proofs.counts.one.Tie as tie

@@ -1,5 +1,5 @@
 -- `hand::counts::settle` meets its contract. By cases on the test (Counted).
-use Rattle.hand.specs.Counted.{settled-yes, settled-no}
+use Rattle.hand.proofs.laws.Counted.{settled-yes, settled-no}
 use borrow.Author.Needs.{needs}
 use Rattle.hand.proofs.counts.settle.Statement.{statement}
 use Rattle.hand.proofs.counts.settle.Tie as tie

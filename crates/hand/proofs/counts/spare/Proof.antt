@@ -3,8 +3,8 @@ use borrow.Author.Needs.{needs}
 use Prim.Native.Nat.{_-_}
 use lib.ListN.{length}
 use Rattle.meaning.specs.Bytes.{literalAt}
-use Rattle.hand.specs.Pass.{part-below}
-use Rattle.hand.specs.Counted.{SpareAt, spare-start, spare-no, spare-on, spare-yes, pass-room}
+use Rattle.hand.proofs.laws.Pass.{part-below}
+use Rattle.hand.proofs.laws.Counted.{SpareAt, spare-start, spare-no, spare-on, spare-yes, pass-room}
 use Rattle.hand.proofs.counts.spare.Statement.{statement}
 use Rattle.hand.proofs.counts.spare.Tie as tie
 

@@ -3,9 +3,9 @@ use borrow.Author.Needs.{needs}
 use Prim.Native.Nat.{_-_}
 use lib.ListN.{length}
 use Rattle.meaning.specs.Bytes.{literalsAt}
-use Rattle.hand.specs.Pass.{part-known}
-use Rattle.hand.specs.Counts.{counting}
-use Rattle.hand.specs.Counted.{ChangeAt, change-start, change-turn, change-end, pass-room}
+use Rattle.hand.proofs.laws.Pass.{part-known}
+use Rattle.hand.specs.Inner.{counting}
+use Rattle.hand.proofs.laws.Counted.{ChangeAt, change-start, change-turn, change-end, pass-room}
 use Rattle.hand.proofs.counts.tally.Statement.{statement}
 use Rattle.hand.proofs.counts.tally.Tie as tie
 

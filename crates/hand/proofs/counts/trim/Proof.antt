@@ -2,8 +2,8 @@
 use borrow.Author.Needs.{needs}
 use Prim.Native.Nat.{_-_}
 use Rattle.meaning.specs.Rows.{rowsOf}
-use Rattle.hand.specs.Known.{at-fits, sign-at, left-known}
-use Rattle.hand.specs.Counted.{TrimAt, trim-start, trim-room, trim-on, trim-end}
+use Rattle.hand.proofs.laws.Known.{at-fits, sign-at, left-known}
+use Rattle.hand.proofs.laws.Counted.{TrimAt, trim-start, trim-room, trim-on, trim-end}
 use Rattle.hand.proofs.counts.trim.Statement.{statement}
 use Rattle.hand.proofs.counts.trim.Tie as tie
 

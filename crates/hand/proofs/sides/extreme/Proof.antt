@@ -3,9 +3,9 @@ use borrow.Author.Needs.{needs}
 use Prim.Native.Nat.{_-_}
 use lib.ListN.{length}
 use Rattle.meaning.specs.Bytes.{literalsAt}
-use Rattle.hand.specs.Pass.{part-few, part-known}
-use Rattle.hand.specs.Sides.{side}
-use Rattle.hand.specs.Joined.{ExtremeAt, extreme-start, extreme-on, extreme-end}
+use Rattle.hand.proofs.laws.Pass.{part-few, part-known}
+use Rattle.hand.specs.Inner.{side}
+use Rattle.hand.proofs.laws.Joined.{ExtremeAt, extreme-start, extreme-on, extreme-end}
 use Rattle.hand.proofs.sides.extreme.Statement.{statement}
 use Rattle.hand.proofs.sides.extreme.Tie as tie
 

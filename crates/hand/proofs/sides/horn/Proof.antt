@@ -1,5 +1,5 @@
 -- `hand::sides::horn` meets its contract. The rows that meet none of the common literals are combined, and say which scarce one stays (Chosen).
-use Rattle.hand.specs.Chosen.{horn-few, common-known, horn-many}
+use Rattle.hand.proofs.laws.Chosen.{horn-few, common-known, horn-many}
 use borrow.Author.Needs.{needs}
 use Rattle.hand.proofs.sides.horn.Statement.{statement}
 use Rattle.hand.proofs.sides.horn.Tie as tie

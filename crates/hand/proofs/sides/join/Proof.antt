@@ -2,8 +2,8 @@
 use borrow.Author.Needs.{needs}
 use Prim.Native.Nat.{_-_}
 use lib.ListN.{length}
-use Rattle.hand.specs.Sides.{side}
-use Rattle.hand.specs.Joined.{JoinAt, join-start, join-on, join-end}
+use Rattle.hand.specs.Inner.{side}
+use Rattle.hand.proofs.laws.Joined.{JoinAt, join-start, join-on, join-end}
 use Rattle.hand.proofs.sides.join.Statement.{statement}
 use Rattle.hand.proofs.sides.join.Tie as tie
 

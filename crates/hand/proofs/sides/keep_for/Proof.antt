@@ -1,9 +1,9 @@
 -- `hand::sides::keep_for` meets its contract. The invariant: what is kept of the literals passed is in hand (KeptAt).
 use borrow.Author.Needs.{needs}
 use Prim.Native.Nat.{_-_}
-use Rattle.hand.specs.Known.{at-fits, sign-at}
-use Rattle.hand.specs.Sides.{side}
-use Rattle.hand.specs.Chosen.{KeptAt, kept-start, kept-on, kept-room, kept-known, kept-end, prefix-length}
+use Rattle.hand.proofs.laws.Known.{at-fits, sign-at}
+use Rattle.hand.specs.Inner.{side}
+use Rattle.hand.proofs.laws.Chosen.{KeptAt, kept-start, kept-on, kept-room, kept-known, kept-end, prefix-length}
 use Rattle.hand.proofs.sides.keep_for.Statement.{statement}
 use Rattle.hand.proofs.sides.keep_for.Tie as tie
 

@@ -1,5 +1,5 @@
 -- `hand::sides::pass` meets its contract. By cases on the test (Joined).
-use Rattle.hand.specs.Joined.{pass-met, pass-joined}
+use Rattle.hand.proofs.laws.Joined.{pass-met, pass-joined}
 use borrow.Author.Needs.{needs}
 use Rattle.hand.proofs.sides.pass.Statement.{statement}
 use Rattle.hand.proofs.sides.pass.Tie as tie

@@ -1,5 +1,5 @@
 -- `hand::sides::picked` meets its contract. Each way out is a lemma of Joined.
-use Rattle.hand.specs.Joined.{picked-first, picked-high-less, picked-high, picked-low-less, picked-low}
+use Rattle.hand.proofs.laws.Joined.{picked-first, picked-high-less, picked-high, picked-low-less, picked-low}
 use borrow.Author.Tests.{not-true, not-false}
 use Rattle.hand.proofs.sides.picked.Statement.{statement}
 use Rattle.hand.proofs.sides.picked.Tie as tie

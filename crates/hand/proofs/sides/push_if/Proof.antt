@@ -1,5 +1,5 @@
 -- `hand::sides::push_if` meets its contract. By cases on the test (Hand).
-use Rattle.hand.specs.Hand.{push-yes, push-no}
+use Rattle.hand.proofs.laws.Hand.{push-yes, push-no}
 use borrow.Author.Needs.{needs}
 use Rattle.hand.proofs.sides.push_if.Statement.{statement}
 use Rattle.hand.proofs.sides.push_if.Tie as tie

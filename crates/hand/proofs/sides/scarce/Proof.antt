@@ -1,5 +1,5 @@
 -- `hand::sides::scarce` meets its contract. By cases on the sign (Sides).
-use Rattle.hand.specs.Sides.{scarce-high, scarce-low}
+use Rattle.hand.proofs.laws.Sides.{scarce-high, scarce-low}
 use borrow.Author.Needs.{needs}
 use Rattle.hand.proofs.sides.scarce.Statement.{statement}
 use Rattle.hand.proofs.sides.scarce.Tie as tie

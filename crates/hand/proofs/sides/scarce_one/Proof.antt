@@ -1,5 +1,5 @@
 -- `hand::sides::scarce_one` meets its contract. By cases on the test (Number).
-use Rattle.hand.specs.Number.{one-yes, one-no}
+use Rattle.hand.proofs.laws.Number.{one-yes, one-no}
 use borrow.Author.Needs.{needs}
 use Rattle.hand.proofs.sides.scarce_one.Statement.{statement}
 use Rattle.hand.proofs.sides.scarce_one.Tie as tie

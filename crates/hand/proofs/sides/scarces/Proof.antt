@@ -2,9 +2,10 @@
 use borrow.Author.Needs.{needs}
 use Prim.Native.Nat.{_-_}
 use native.Mathlib.Omega.{arith}
-use Rattle.hand.specs.Known.{at-fits}
-use Rattle.hand.specs.Sides.{side, scarces-end}
-use Rattle.hand.specs.Number.{NumberAt, number-start, number-few, number-on}
+use Rattle.hand.proofs.laws.Known.{at-fits}
+use Rattle.hand.proofs.laws.Sides.{scarces-end}
+use Rattle.hand.specs.Inner.{side}
+use Rattle.hand.proofs.laws.Number.{NumberAt, number-start, number-few, number-on}
 use Rattle.meaning.specs.Rules.{scarce}
 use Rattle.hand.proofs.sides.scarces.Statement.{statement}
 use Rattle.hand.proofs.sides.scarces.Tie as tie

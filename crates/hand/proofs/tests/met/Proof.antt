@@ -1,8 +1,8 @@
 -- `hand::tests::met` meets its contract. The invariant: the rule is met if what is left of it is (MetAt).
 use Prim.Native.Nat.{_-_}
 use borrow.Author.Needs.{needs}
-use Rattle.hand.specs.Known.{at-fits, left-known}
-use Rattle.hand.specs.Asked.{MetAt, met-start, met-yes, met-on, met-none}
+use Rattle.hand.proofs.laws.Known.{at-fits, left-known}
+use Rattle.hand.proofs.laws.Asked.{MetAt, met-start, met-yes, met-on, met-none}
 use Rattle.hand.proofs.tests.met.Statement.{statement}
 use Rattle.hand.proofs.tests.met.Tie as tie
 

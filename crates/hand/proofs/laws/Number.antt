@@ -4,18 +4,11 @@ use native.Mathlib.Omega.{arith}
 use native.Mathlib.Nat.{sub-zero}
 use mathlib.Core.Path.{_≡_, _∙_}
 use mathlib.Core.Bool.{Bool, true, false}
-use mathlib.Core.List.{List, [], _∷_}
-use Rattle.meaning.specs.Rules.{Literal, Rule}
+use mathlib.Core.List.{List}
+use Rattle.meaning.specs.Rules.{Literal}
 use Rattle.meaning.specs.Bytes.{literalAt, literalsAt}
-use Rattle.hand.specs.Known.{At, literals-on, literals-none, at-start, at-on}
-
-unfoldable pub one : Bool → ℕ
-one true = 1
-one false = 0
-
-unfoldable pub number : (Literal → Bool) → Rule → ℕ
-number t [] = 0
-number t (c ∷ r) = one (t c) + number t r
+use Rattle.hand.specs.Inner.{one, number}
+use Rattle.hand.proofs.laws.Known.{At, literals-on, literals-none, at-start, at-on}
 
 one-small : (t : Bool) → one t ≤ 1
 unfolding one

@@ -5,15 +5,11 @@ use native.Mathlib.Nat.{sub-zero}
 use mathlib.Core.Path.{_≡_, refl}
 use mathlib.Core.List.{List, [], _∷_}
 use lib.ListN.{length, getD}
-use Rattle.meaning.specs.Lists.{All}
 use Rattle.meaning.specs.Rules.{Rule, setting, AllFit}
-use Rattle.meaning.specs.Rows.{Sizes, rowsOf}
-use Rattle.hand.specs.declared.Hand.{Hand}
-use Rattle.hand.specs.Hand.{ruleIn, Sane}
+use Rattle.meaning.specs.Rows.{Sizes}
 use Rattle.meaning.specs.Bytes.{literal, literalAt, literalsAt}
-
-abbrev pub Known : ℕ → Rule → Type 0
-Known l r = All (λ c. setting c < l) r
+use Rattle.hand.specs.declared.Hand.{Hand}
+use Rattle.hand.specs.Inner.{Sane, Known}
 
 pub fit-known : (ns : Sizes) (r : Rule) → AllFit ns r → Known (length ns) r
 fit-known ns [] f = tt
@@ -72,11 +68,3 @@ module _ {l : ℕ} {b : List ℕ} {count : ℕ} where
 
     pub left-known : getD b p 0 < l
     left-known = rw setting-literal at (both .0)
-
--- what a reduction asks of a hand and a table, l bytes to a row
-pub record Ready (h : Hand) (l : ℕ) (table : List ℕ) : Type 0 where
-  pub sane : Sane h
-  pub known : Known l (ruleIn h)
-  pub l-low : 1 ≤ l
-  pub l-high : l ≤ 16
-  pub rows : length (rowsOf l table) ≤ 512

@@ -9,7 +9,7 @@ use lib.ListN.{length, take, drop, length-take, length-drop}
 use lib.Seq.{drop-drop}
 use Rattle.meaning.specs.Rows.{Row, rowsIn, rowsOf}
 use Rattle.meaning.specs.Rules.{Rule}
-use Rattle.hand.specs.Known.{Known}
+use Rattle.hand.specs.Inner.{Known}
 
 -- the rows from place at on
 abbrev pub rowsFrom : ℕ → List ℕ → ℕ → List Row

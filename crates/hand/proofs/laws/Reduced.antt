@@ -6,7 +6,7 @@ use Rattle.meaning.specs.Rows.{Row}
 use Rattle.meaning.specs.Rules.{low, high}
 use Rattle.meaning.specs.Families.{reduce, trim, reduceFor}
 use Rattle.hand.specs.declared.Hand.{Hand}
-use Rattle.hand.specs.Hand.{ruleIn, Sane, Holding}
+use Rattle.hand.specs.Inner.{ruleIn, Sane, Holding}
 
 module _ (family : ℕ) (rows : List Row) (h : Hand) where
   pub reduced-general : family ≡ 0 → Sane h → Holding (reduceFor family rows (ruleIn h)) h

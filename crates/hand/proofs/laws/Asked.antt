@@ -8,7 +8,8 @@ use lib.ListN.{length}
 use Rattle.meaning.specs.Rows.{Row}
 use Rattle.meaning.specs.Rules.{holds, met}
 use Rattle.meaning.specs.Bytes.{literalAt, literalsAt}
-use Rattle.hand.specs.Known.{Known, At, literals-on, literals-none, at-start, at-on, Left, left-start, left-on}
+use Rattle.hand.proofs.laws.Known.{At, literals-on, literals-none, at-start, at-on, Left, left-start, left-on}
+use Rattle.hand.specs.Inner.{Known}
 
 -- the rule is met if what is left of it is
 pub record MetAt (b : List ℕ) (count : ℕ) (x : Row) (p j : ℕ) : Type 0 where

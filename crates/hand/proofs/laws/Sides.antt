@@ -7,11 +7,8 @@ use lib.Dec.{eqb, eqb·suc-zero}
 use lib.ListN.{getD}
 use Rattle.meaning.specs.Rules.{Rule, Side, low, high, scarce, scarces}
 use Rattle.meaning.specs.Bytes.{literal, literalAt, literalsAt}
-use Rattle.hand.specs.Number.{one, number, NumberAt, number-end}
-
-abbrev pub side : Bool → Side
-side false = low
-side true = high
+use Rattle.hand.specs.Inner.{one, number, side}
+use Rattle.hand.proofs.laws.Number.{NumberAt, number-end}
 
 -- ---- one literal
 

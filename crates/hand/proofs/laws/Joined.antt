@@ -13,23 +13,11 @@ use Rattle.meaning.specs.Rules.{Rule, Side, met}
 use Rattle.meaning.specs.Families.{pick, both, join, extreme}
 use Rattle.meaning.proofs.Combined.{at-both, length-both}
 use Rattle.hand.specs.declared.sides.Joined.{Joined}
-use Rattle.hand.specs.Sides.{side}
-use Rattle.hand.specs.Change.{change, change-length, change-at, change-on, change-none}
-use Rattle.hand.specs.Pass.{rowsFrom, part, part-length, rows-on, rows-none}
-
--- the row of l values, or none
-abbrev pub rowIn : ℕ → Joined → Option Row
-rowIn l e = cond (e .any) (some (take l (e .values))) none
-
-pub record Joins (l : ℕ) (o : Option Row) (e : Joined) : Type 0 where
-  pub whole : length (e .values) ≡ 16
-  pub row : rowIn l e ≡ o
+use Rattle.hand.specs.Inner.{change, side, rowIn, Joins, picked}
+use Rattle.hand.proofs.laws.Change.{change-length, change-at, change-on, change-none}
+use Rattle.hand.proofs.laws.Pass.{rowsFrom, part, part-length, rows-on, rows-none}
 
 -- ---- two values
-
--- v alone where there is nothing yet
-unfoldable pub picked : Bool → Side → ℕ → ℕ → ℕ
-picked any s u v = cond any (pick s u v) v
 
 module _ (any t : Bool) (u v : ℕ) where
   pub picked-first : any ≡ false → v ≡ picked any (side t) u v

@@ -8,26 +8,13 @@ use mathlib.Core.Logic.{inl, inr}
 use lib.ListN.{length, getD, take, set, length-set, length-append}
 use lib.Seq.{getD-set-same}
 use borrow.Author.Needs.{read-below}
-use Rattle.meaning.proofs.Tests.{lt-or-le}
 use Rattle.meaning.specs.Lists.{opt}
 use Rattle.meaning.specs.Rules.{Literal, Rule}
 use Rattle.meaning.specs.Bytes.{encodeLiterals, literal, literalAt, literalsAt}
-use Rattle.hand.specs.declared.Hand.{Hand}
+use Rattle.meaning.proofs.Tests.{lt-or-le}
 use Rattle.meaning.proofs.Literals.{literals-length, literals-same, literals-more, literals-bytes}
-
-abbrev pub ruleIn : Hand → Rule
-ruleIn h = literalsAt (h .bytes) 0 (h .count)
-
--- as many literals as fit, and each sign is 0 or 1, so that the bytes are those of the book
-pub record Sane (h : Hand) : Type 0 where
-  pub few : h .count ≤ 32
-  pub whole : length (h .bytes) ≡ 96
-  pub signs : (k : ℕ) → k < h .count → getD (h .bytes) (3 * k + 1) 0 < 2
-
--- the hand h has the rule r in it
-pub record Holding (r : Rule) (h : Hand) : Type 0 where
-  pub sane : Sane h
-  pub rule : ruleIn h ≡ r
+use Rattle.hand.specs.declared.Hand.{Hand}
+use Rattle.hand.specs.Inner.{ruleIn, Sane, Holding}
 
 -- ---- laws
 

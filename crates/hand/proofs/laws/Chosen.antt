@@ -3,7 +3,7 @@ use Prim.Native.Nat.{ℕ, _+_, _-_, _≤_, _<_}
 use native.Mathlib.Omega.{arith}
 use native.Mathlib.Nat.{sub-zero}
 use mathlib.Core.Path.{_≡_, refl, sym, ap, _∙_}
-use mathlib.Core.Bool.{Bool, true, false, cond, not, _&&_, _||_}
+use mathlib.Core.Bool.{Bool, true, false, cond, not, _||_}
 use mathlib.Core.List.{List, [], _∷_, _++_, append-nil, append-assoc}
 use mathlib.Core.Option.{none, some}
 use lib.ListN.{length, getD, take}
@@ -16,13 +16,9 @@ use Rattle.meaning.specs.Bytes.{literalAt, literalsAt}
 use Rattle.meaning.specs.Families.{common, commonAnd, keepFor, extreme, reduce}
 use Rattle.hand.specs.declared.Hand.{Hand}
 use Rattle.hand.specs.declared.sides.Joined.{Joined}
-use Rattle.hand.specs.Hand.{ruleIn, Sane, Holding, rule-length, opt-count}
-use Rattle.hand.specs.Known.{Known, At, literals-on, literals-none, at-start, at-on, Left, left-start, left-on, left-known}
-use Rattle.hand.specs.Joined.{rowIn, Joins}
-
--- the scarce one that stays is the first that holds
-abbrev pub chosen : Bool → Bool → Bool → Bool
-chosen rare found holds = rare && (not found && holds)
+use Rattle.hand.specs.Inner.{ruleIn, Sane, Holding, Known, rowIn, Joins, chosen}
+use Rattle.hand.proofs.laws.Hand.{rule-length, opt-count}
+use Rattle.hand.proofs.laws.Known.{At, literals-on, literals-none, at-start, at-on, Left, left-start, left-on, left-known}
 
 -- what is kept of the literals left
 unfoldable pub keptOf : Side → Row → Bool → Rule → Rule

@@ -9,18 +9,18 @@ use lib.Dec.{eqb}
 use lib.ListN.{length, getD, take, drop, set, length-set}
 use lib.Seq.{getD-drop, drop-drop}
 use borrow.Author.Tests.{eq-eqb, ne-eqb}
-use Rattle.meaning.proofs.Tests.{case, is, isnt}
 use Rattle.meaning.specs.Rows.{Row, rowsOf}
 use Rattle.meaning.specs.Rules.{Literal, Rule, holds}
 use Rattle.meaning.specs.Bytes.{literalAt, literalsAt}
 use Rattle.meaning.specs.Families.{trim}
+use Rattle.meaning.proofs.Tests.{case, is, isnt}
 use Rattle.hand.specs.declared.Hand.{Hand}
-use Rattle.hand.specs.Hand.{ruleIn, Sane, Holding, rule-length, append-count}
-use Rattle.hand.specs.Known.{Known, At, literals-on, literals-none, at-start, at-on, Left, left-start, left-on}
-use Rattle.hand.specs.Change.{change, change-length, change-on, change-none}
-use Rattle.hand.specs.Pass.{rowsFrom, part, rows-on, rows-none}
-use Rattle.hand.specs.Number.{one}
-use Rattle.hand.specs.Counts.{counting, lowering, spare, Counts, counts-anew, counts-without, trim-spare}
+use Rattle.hand.specs.Inner.{ruleIn, Sane, Holding, Known, change, one, counting, lowering, spare, Settled}
+use Rattle.hand.proofs.laws.Hand.{rule-length, append-count}
+use Rattle.hand.proofs.laws.Known.{At, literals-on, literals-none, at-start, at-on, Left, left-start, left-on}
+use Rattle.hand.proofs.laws.Change.{change-length, change-on, change-none}
+use Rattle.hand.proofs.laws.Pass.{rowsFrom, part, rows-on, rows-none}
+use Rattle.hand.proofs.laws.Counts.{Counts, counts-anew, counts-without, trim-spare}
 
 -- ---- a pass: row k stands at place at, and no row is without a number
 
@@ -96,10 +96,6 @@ module _ {c : Literal} {l : ℕ} {table ns : List ℕ} where
     spare-yes h = sym (m .whole ∙ rw (rows-none l table at h))
 
 -- ---- past the literal c: the rule in hand, and the numbers ns of the rows
-
-pub record Settled (c : Literal) (rows : List Row) (ns next : List ℕ) (out r : Hand) : Type 0 where
-  pub rule : Holding (cond (spare c rows ns) (ruleIn out) (ruleIn out ++ (c ∷ []))) r
-  pub numbers : next ≡ cond (spare c rows ns) (change (lowering c) rows ns) ns
 
 module _ {c : Literal} {rows : List Row} {ns : List ℕ} {out : Hand} {t : Bool} (e : t ≡ spare c rows ns) where
   pub settled-yes : {next : List ℕ} → t ≡ true → Sane out → next ≡ change (lowering c) rows ns → Settled c rows ns next out out

@@ -1,8 +1,8 @@
 -- Counts: how many literals of a rule hold in each row. A literal is no row's only one just where every row meets the rule without it.
-use Prim.Native.Nat.{ℕ, zero, suc, _+_, _-_}
+use Prim.Native.Nat.{ℕ, zero, suc, _+_}
 use native.Mathlib.Omega.{arith}
 use mathlib.Core.Path.{_≡_, refl, sym, ap, _∙_}
-use mathlib.Core.Bool.{Bool, true, false, cond, not, _&&_, _||_}
+use mathlib.Core.Bool.{Bool, true, false, cond, not, _||_}
 use mathlib.Core.List.{List, [], _∷_, _++_}
 use lib.Dec.{eqb}
 use lib.ListN.{getD, drop}
@@ -10,20 +10,7 @@ use borrow.Author.Tests.{eq-eqb, ne-eqb}
 use Rattle.meaning.specs.Rows.{Row}
 use Rattle.meaning.specs.Rules.{Literal, Rule, holds, met}
 use Rattle.meaning.specs.Families.{metByAll, trim}
-use Rattle.hand.specs.Change.{change}
-use Rattle.hand.specs.Number.{one, number}
-
--- a row's number anew, and without a literal
-abbrev pub counting : Rule → ℕ → Row → ℕ
-counting r n m = number (λ c. holds c m) r
-
-abbrev pub lowering : Literal → ℕ → Row → ℕ
-lowering c n m = n - one (holds c m)
-
--- no row's number is the literal's own part of it
-unfoldable pub spare : Literal → List Row → List ℕ → Bool
-spare c [] ns = true
-spare c (m ∷ rows) ns = not (eqb (getD ns 0 0) (one (holds c m))) && spare c rows (drop 1 ns)
+use Rattle.hand.specs.Inner.{change, one, number, counting, lowering, spare}
 
 -- the numbers of the rows are those of the rule
 abbrev pub Counts : Rule → List Row → List ℕ → Type 0
