@@ -1,13 +1,2 @@
 pub mod Made
-pub mod Sending
-pub mod Earlier
-pub mod Parts
-pub mod Edges
-pub mod Middle
-pub mod Making
-pub mod AllRows
-pub mod Measuring
-pub mod Writing
-pub mod Refusals
-pub mod Cases
-pub mod Promised
+pub mod Inner

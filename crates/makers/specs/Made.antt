@@ -1,5 +1,5 @@
 -- Made: what making a book gives. Refusals 1 to 8 of document 01, in their order, or the book written to the start of the room.
-use Prim.Native.Nat.{ℕ}
+use Prim.Native.Nat.{ℕ, _/_, _≤_}
 use mathlib.Core.Bool.{cond}
 use mathlib.Core.List.{List, [], _∷_, _++_}
 use mathlib.Core.Option.{Option, none, some}
@@ -8,12 +8,12 @@ use lib.ListN.{length, drop}
 use Rattle.meaning.specs.Rows.{alike, at, rowsOf}
 use Rattle.meaning.specs.Rules.{Rule}
 use Rattle.meaning.specs.Families.{rulesFor}
-use Rattle.meaning.specs.Closed.{openRows}
+use Rattle.meaning.specs.Closed.{openRows, ClosedFor}
 use Rattle.meaning.specs.Bytes.{encode}
 use Rattle.tables.specs.declared.Checked.{Checked}
 use Rattle.tables.specs.declared.Checked.the-variants.{Sound, Flawed}
 use Rattle.tables.specs.Check as check
-use Rattle.tables.specs.Check.{checkedOf}
+use Rattle.tables.specs.Check.{checkedOf, Passes}
 use Rattle.makers.specs.declared.Made.{Made}
 use Rattle.makers.specs.declared.Made.the-variants.{Book, Family, Pair, Triple, Room, Flawed as Refused}
 
@@ -75,3 +75,22 @@ closedOf n l family table room =
 
 unfoldable pub madeOf : ℕ → ℕ → ℕ → List ℕ → List ℕ → Made × List ℕ
 madeOf n l family table room = unlessFlawed (checkedOf n l table) room (closedOf n l family table room)
+
+-- ---- the cases
+
+-- a sound table of rows of l values below n
+abbrev pub Tested : ℕ → ℕ → List ℕ → Type 0
+Tested n l table = Passes n l table (length table / l)
+
+module _ (n l family : ℕ) (table : List ℕ) where
+  abbrev pub bytes : List ℕ
+  bytes = bytesMade n l family table
+
+  -- ---- given
+
+  -- the conditions under which a book is given
+  pub record Grants (room : List ℕ) : Type 0 where
+    pub tested : Tested n l table
+    pub families : family ≤ 3
+    pub closed : ClosedFor family (rowsOf l table)
+    pub enough : length bytes ≤ length room

@@ -8,7 +8,7 @@ ghost use Rattle.meaning.specs.Lists.{opt};
 ghost use Rattle.meaning.specs.Rules.{atMost, atLeast};
 ghost use Rattle.meaning.specs.General.{differs, earlier};
 ghost use Rattle.hand.specs.Inner.{ruleIn, Holding};
-ghost use Rattle.makers.specs.Earlier.{Spare};
+ghost use Rattle.makers.specs.Inner.{Spare};
 use hand::Hand;
 use hand::empty;
 use hand::push;

@@ -13,10 +13,7 @@ use hand::empty;
 use hand::push;
 ghost use Prim.Native.Nat.{_+_, _/_, _<_};
 ghost use lib.ListN.{length};
-ghost use Rattle.makers.specs.Sending.{Countable};
-ghost use Rattle.makers.specs.Middle.{Apart, SentBetween};
-ghost use Rattle.makers.specs.Making.{Given, SentMiddle, SentRow};
-ghost use Rattle.makers.specs.AllRows.{SentAll};
+ghost use Rattle.makers.specs.Inner.{Countable, Apart, SentBetween, Given, SentMiddle, SentRow, SentAll};
 
 // The middle rule between two rows that part at setting i.
 fn between(

@@ -2,7 +2,7 @@
 ghost use mathlib.Core.Path.{_≡_};
 ghost use Prim.Native.Nat.{_≤_};
 ghost use Rattle.hand.specs.Inner.{ruleIn, Sane};
-ghost use Rattle.makers.specs.Sending.{State, send};
+ghost use Rattle.makers.specs.Inner.{State, send};
 use books::put_rule;
 use hand::Hand;
 

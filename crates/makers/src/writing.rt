@@ -11,9 +11,7 @@ ghost use lib.ListN.{length};
 ghost use Rattle.meaning.specs.Rows.{rowsOf};
 ghost use Rattle.meaning.specs.Families.{rulesFor};
 ghost use Rattle.meaning.specs.Bytes.{encode};
-ghost use Rattle.makers.specs.Making.{Given};
-ghost use Rattle.makers.specs.Measuring.{Measured, Needed};
-ghost use Rattle.makers.specs.Writing.{Writable, Wrote, bookOf};
+ghost use Rattle.makers.specs.Inner.{Given, Measured, Needed, Writable, Wrote, bookOf};
 
 // The length of the book in a family, and its number of rules: its rules sent to no room.
 fn measured(sizes: &[u8], family: usize, table: &[u8]) -> Tally

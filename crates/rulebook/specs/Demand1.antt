@@ -20,7 +20,7 @@ use Rattle.tables.proofs.laws.Firsts.{high-some, low-some}
 use Rattle.meaning.specs.Rules.{Rule}
 use Rattle.meaning.proofs.Given.{open-first}
 use Rattle.makers.specs.Made.{numberOf, rulesMade, bytesMade, fitting, unlessFlawed, openAs, unlessOpen, bookAlike, closedOf, madeOf}
-use Rattle.makers.specs.Cases.{made-stays}
+use Rattle.makers.proofs.laws.Cases.{made-stays}
 use Rattle.meaning.specs.Bytes.{rulesIn}
 use Rattle.books.specs.declared.Reading.{Reading}
 use Rattle.books.specs.declared.Reading.the-variants.{Book, Faulty}

@@ -25,9 +25,9 @@ use Rattle.books.proofs.laws.Written as books
 use Rattle.books.proofs.laws.Accepted as accepted
 use Rattle.books.specs.Tested.{testedOf}
 use Rattle.books.proofs.laws.Tested.{tested-permitted}
-use Rattle.makers.specs.Made.{numberOf, rulesMade, bytesMade, openAs, madeOf}
-use Rattle.makers.specs.Cases.{Tested, Makes, flawed, unknown, unclosed, narrow, given, made-cases}
-use Rattle.makers.specs.Promised.{Grants, Gives, made-given, made-gives, made-general}
+use Rattle.makers.specs.Made.{numberOf, rulesMade, bytesMade, openAs, madeOf, Tested, Grants}
+use Rattle.makers.proofs.laws.Cases.{Makes, flawed, unknown, unclosed, narrow, given, made-cases}
+use Rattle.makers.proofs.laws.Promised.{Gives, made-given, made-gives, made-general}
 use Rattle.tables.specs.declared.Checked.the-variants.{Sound, Flawed}
 use Rattle.tables.proofs.laws.Promised.{checked-sound}
 use Rattle.rulebook.specs.Told.{Told, madeTold}

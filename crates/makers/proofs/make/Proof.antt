@@ -1,5 +1,5 @@
 -- `makers::make` meets its contract: refusals 1 to 5 first, then those of a sound table.
-use Rattle.makers.specs.Refusals.{made-flawed, made-sound, made-passes}
+use Rattle.makers.proofs.laws.Refusals.{made-flawed, made-sound, made-passes}
 use borrow.Author.Needs.{needs}
 use Rattle.makers.proofs.make.Statement.{statement}
 use Rattle.makers.proofs.make.Tie as tie

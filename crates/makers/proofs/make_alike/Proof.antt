@@ -1,6 +1,6 @@
 -- `makers::make_alike` meets its contract: sixteen sizes, cut at l, are those of the head.
 use Rattle.meaning.proofs.Alike.{alike-cut}
-use Rattle.makers.specs.Refusals.{alike-given, alike-book}
+use Rattle.makers.proofs.laws.Refusals.{alike-given, alike-book}
 use borrow.Author.Needs.{needs}
 use Rattle.makers.proofs.make_alike.Statement.{statement}
 use Rattle.makers.proofs.make_alike.Tie as tie

@@ -1,5 +1,5 @@
 -- `makers::make_checked` meets its contract: refusals 6 and 7 come in their order, then the book or refusal 8.
-use Rattle.makers.specs.Refusals.{closed-family, closed-pair, closed-triple, closed-book}
+use Rattle.makers.proofs.laws.Refusals.{closed-family, closed-pair, closed-triple, closed-book}
 use Rattle.tables.proofs.laws.Promised.{passes-ready}
 use borrow.Author.Needs.{needs}
 use Rattle.makers.proofs.make_checked.Statement.{statement}

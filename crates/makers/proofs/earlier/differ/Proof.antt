@@ -1,5 +1,5 @@
 -- `makers::earlier::differ` meets its contract: the two literals, each where it is one, are what differs.
-use Rattle.makers.specs.Earlier.{differ-few, differ-both}
+use Rattle.makers.proofs.laws.Earlier.{differ-few, differ-both}
 use borrow.Author.Needs.{needs}
 use Rattle.makers.proofs.earlier.differ.Statement.{statement}
 use Rattle.makers.proofs.earlier.differ.Tie as tie

@@ -1,6 +1,6 @@
 -- `makers::earlier::differs_before` meets its contract. The invariant: in hand is what differs before setting i.
 use Prim.Native.Nat.{_-_}
-use Rattle.makers.specs.Earlier.{Differs, differs-start, differs-few, differs-on, differs-end}
+use Rattle.makers.proofs.laws.Earlier.{Differs, differs-start, differs-few, differs-on, differs-end}
 use borrow.Author.Needs.{needs}
 use Rattle.makers.proofs.earlier.differs_before.Statement.{statement}
 use Rattle.makers.proofs.earlier.differs_before.Tie as tie

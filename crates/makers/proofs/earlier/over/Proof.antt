@@ -1,5 +1,5 @@
 -- `makers::earlier::over` meets its contract: where v + 1 is no value nothing is added, else the literal.
-use Rattle.makers.specs.Earlier.{over-far, over-none, over-some}
+use Rattle.makers.proofs.laws.Earlier.{over-far, over-none, over-some}
 use borrow.Author.Needs.{needs}
 use Rattle.makers.proofs.earlier.over.Statement.{statement}
 use Rattle.makers.proofs.earlier.over.Tie as tie

@@ -1,5 +1,5 @@
 -- `makers::earlier::under` meets its contract: with v = 0 nothing is added, else the literal.
-use Rattle.makers.specs.Earlier.{under-none, under-some}
+use Rattle.makers.proofs.laws.Earlier.{under-none, under-some}
 use borrow.Author.Needs.{needs}
 use Rattle.makers.proofs.earlier.under.Statement.{statement}
 use Rattle.makers.proofs.earlier.under.Tie as tie

@@ -1,6 +1,6 @@
 -- `makers::making::between` meets its contract: the hand with both literals is the middle rule.
-use Rattle.makers.specs.Earlier.{Spare}
-use Rattle.makers.specs.Middle.{apart-spare, apart-more, apart-ready, apart-sent}
+use Rattle.makers.specs.Inner.{Spare}
+use Rattle.makers.proofs.laws.Middle.{apart-spare, apart-more, apart-ready, apart-sent}
 use borrow.Author.Needs.{needs}
 use Rattle.makers.proofs.making.between.Statement.{statement}
 use Rattle.makers.proofs.making.between.Tie as tie

@@ -1,5 +1,5 @@
 -- `makers::making::middle` meets its contract: rows in order part before their end.
-use Rattle.makers.specs.Making.{middle-none, middle-same, middle-apart, middle-sent}
+use Rattle.makers.proofs.laws.Making.{middle-none, middle-same, middle-apart, middle-sent}
 use borrow.Author.Needs.{needs}
 use Rattle.makers.proofs.making.middle.Statement.{statement}
 use Rattle.makers.proofs.making.middle.Tie as tie

@@ -1,6 +1,6 @@
 -- `makers::making::row_by_row` meets its contract. The invariant: what is left from row k on gives the whole.
 use Prim.Native.Nat.{_-_}
-use Rattle.makers.specs.AllRows.{RowsAt, rows-start, rows-countable, rows-on, rows-end}
+use Rattle.makers.proofs.laws.AllRows.{RowsAt, rows-start, rows-countable, rows-on, rows-end}
 use borrow.Author.Needs.{needs}
 use Rattle.makers.proofs.making.row_by_row.Statement.{statement}
 use Rattle.makers.proofs.making.row_by_row.Tie as tie

@@ -1,7 +1,8 @@
 -- `makers::making::row_rules` meets its contract: left, right and middle, one after the other.
 use native.Mathlib.Omega.{arith}
-use Rattle.makers.specs.Sending.{Countable, sent-countable}
-use Rattle.makers.specs.Making.{given-sides, row-sent}
+use Rattle.makers.proofs.laws.Sending.{sent-countable}
+use Rattle.makers.specs.Inner.{Countable}
+use Rattle.makers.proofs.laws.Making.{given-sides, row-sent}
 use borrow.Author.Needs.{needs}
 use Rattle.makers.proofs.making.row_rules.Statement.{statement}
 use Rattle.makers.proofs.making.row_rules.Tie as tie

@@ -1,5 +1,5 @@
 -- `makers::making::rules` meets its contract: no rows give the one rule without literals (`rows-none`).
-use Rattle.makers.specs.AllRows.{rows-none}
+use Rattle.makers.proofs.laws.AllRows.{rows-none}
 use borrow.Author.Needs.{needs}
 use Rattle.makers.proofs.making.rules.Statement.{statement}
 use Rattle.makers.proofs.making.rules.Tie as tie

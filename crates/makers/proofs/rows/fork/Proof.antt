@@ -1,7 +1,7 @@
 -- `makers::rows::fork` meets its contract: its three cases are those of the definition.
 use Prim.Native.Nat.{_≤_}
 use native.Mathlib.Omega.{arith}
-use Rattle.makers.specs.Parts.{fork-first, fork-last, fork-same, fork-most, fork-between}
+use Rattle.makers.proofs.laws.Parts.{fork-first, fork-last, fork-same, fork-most, fork-between}
 use borrow.Author.Needs.{needs}
 use Rattle.makers.proofs.rows.fork.Statement.{statement}
 use Rattle.makers.proofs.rows.fork.Tie as tie

@@ -1,7 +1,7 @@
 -- `makers::rows::split` meets its contract. The invariant: the rows agree so far, and the rest of them decides.
 use Prim.Native.Nat.{_-_}
 use lib.ListN.{length}
-use Rattle.makers.specs.Parts.{SplitAt, split-start, split-here, split-on, split-end}
+use Rattle.makers.proofs.laws.Parts.{SplitAt, split-start, split-here, split-on, split-end}
 use borrow.Author.Needs.{needs}
 use Rattle.makers.proofs.rows.split.Statement.{statement}
 use Rattle.makers.proofs.rows.split.Tie as tie

@@ -1,5 +1,5 @@
 -- `makers::sending::send` meets its contract: the hand's bytes are the rule's literals, so that its record is that of the rule.
-use Rattle.makers.specs.Sending.{send-put, send-length, send-few}
+use Rattle.makers.proofs.laws.Sending.{send-put, send-length, send-few}
 use borrow.Author.Needs.{needs}
 use Rattle.makers.proofs.sending.send.Statement.{statement}
 use Rattle.makers.proofs.sending.send.Tie as tie

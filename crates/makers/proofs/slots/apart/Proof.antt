@@ -1,5 +1,5 @@
 -- `makers::slots::apart` meets its contract: where w is at most v, so is it at most v + 1.
-use Rattle.makers.specs.Edges.{apart-not}
+use Rattle.makers.proofs.laws.Edges.{apart-not}
 use borrow.Author.Needs.{needs}
 use Rattle.makers.proofs.slots.apart.Statement.{statement}
 use Rattle.makers.proofs.slots.apart.Tie as tie

@@ -1,8 +1,8 @@
 -- `makers::slots::edges` meets its contract. The invariant: in hand is what differs before setting i, and what is left from there gives the whole.
 use Prim.Native.Nat.{_-_}
 use lib.ListN.{length}
-use Rattle.makers.specs.Earlier.{Spare}
-use Rattle.makers.specs.Edges.{EdgesAt, edges-start, edges-spare, edges-countable, edges-ready, edges-on, edges-end}
+use Rattle.makers.specs.Inner.{Spare}
+use Rattle.makers.proofs.laws.Edges.{EdgesAt, edges-start, edges-spare, edges-countable, edges-ready, edges-on, edges-end}
 use borrow.Author.Needs.{needs}
 use Rattle.makers.proofs.slots.edges.Statement.{statement}
 use Rattle.makers.proofs.slots.edges.Tie as tie

@@ -1,5 +1,5 @@
 -- `makers::slots::ruled` meets its contract: its two cases are those of the definition.
-use Rattle.makers.specs.Edges.{ruled-right, ruled-left}
+use Rattle.makers.proofs.laws.Edges.{ruled-right, ruled-left}
 use borrow.Author.Needs.{needs}
 use Rattle.makers.proofs.slots.ruled.Statement.{statement}
 use Rattle.makers.proofs.slots.ruled.Tie as tie

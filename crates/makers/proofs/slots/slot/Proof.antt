@@ -1,5 +1,5 @@
 -- `makers::slots::slot` meets its contract: a slot with a rule sends it reduced, one without sends nothing.
-use Rattle.makers.specs.Sending.{slot-some, slot-none}
+use Rattle.makers.proofs.laws.Sending.{slot-some, slot-none}
 use borrow.Author.Needs.{needs}
 use Rattle.makers.proofs.slots.slot.Statement.{statement}
 use Rattle.makers.proofs.slots.slot.Tie as tie

@@ -1,5 +1,5 @@
 -- `makers::writing::book` meets its contract: what is needed decides, and a book that fits is written whole.
-use Rattle.makers.specs.Writing.{book-refused, book-writable, book-written}
+use Rattle.makers.proofs.laws.Writing.{book-refused, book-writable, book-written}
 use borrow.Author.Needs.{needs}
 use Rattle.makers.proofs.writing.book.Statement.{statement}
 use Rattle.makers.proofs.writing.book.Tie as tie

@@ -1,5 +1,5 @@
 -- `makers::writing::measured` meets its contract: the tally does not depend on the room.
-use Rattle.makers.specs.Measuring.{measured-sent}
+use Rattle.makers.proofs.laws.Measuring.{measured-sent}
 use borrow.Author.Needs.{needs}
 use Rattle.makers.proofs.writing.measured.Statement.{statement}
 use Rattle.makers.proofs.writing.measured.Tie as tie

@@ -1,5 +1,5 @@
 -- `makers::writing::needed` meets its contract: rules are no longer than the general ones that they are parts of.
-use Rattle.makers.specs.Measuring.{needed-bound, needed-general, needed-exact}
+use Rattle.makers.proofs.laws.Measuring.{needed-bound, needed-general, needed-exact}
 use borrow.Author.Needs.{needs}
 use Rattle.makers.proofs.writing.needed.Statement.{statement}
 use Rattle.makers.proofs.writing.needed.Tie as tie

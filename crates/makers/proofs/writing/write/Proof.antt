@@ -1,5 +1,5 @@
 -- `makers::writing::write` meets its contract: head, rules and end, each written where the one before it ends.
-use Rattle.makers.specs.Writing.{write-all}
+use Rattle.makers.proofs.laws.Writing.{write-all}
 use borrow.Author.Needs.{needs}
 use Rattle.makers.proofs.writing.write.Statement.{statement}
 use Rattle.makers.proofs.writing.write.Tie as tie

@@ -10,26 +10,19 @@ use lib.Dec.{ltb}
 use lib.ListN.{length}
 use borrow.Author.Tests.{le-ltb}
 use Rattle.meaning.specs.Lists.{opt, each}
-use Rattle.meaning.proofs.All.{All-append}
 use Rattle.meaning.specs.Rows.{Row, Sizes, at, rowsOf}
 use Rattle.meaning.specs.Rules.{Literal, atMost, atLeast, Rule, setting}
 use Rattle.meaning.specs.General.{differs, earlier, leftAt, rightAt}
 use Rattle.meaning.specs.Bytes.{literal}
 use Rattle.hand.specs.declared.Hand.{Hand}
 use Rattle.hand.specs.Inner.{ruleIn, Holding, Known, Ready}
+use Rattle.meaning.proofs.All.{All-append}
 use Rattle.makers.specs.declared.sending.Tally.{Tally}
-use Rattle.makers.specs.Sending.{sends, sendsFor, sendsFor-append, Countable, Sent}
-use Rattle.makers.specs.Earlier.{Spare, earlier-few, earlier-on}
+use Rattle.makers.specs.Inner.{Spare, sends, sendsFor, Countable, Sent, ruledOf, edgeAt, Sides, SentEdges}
+use Rattle.makers.proofs.laws.Sending.{sendsFor-append}
+use Rattle.makers.proofs.laws.Earlier.{earlier-few, earlier-on}
 
 -- ---- both sides as one
-
--- there is a rule at v, of n values: on the right side (0) where v is below n-1, on the left side where v is above 0
-unfoldable pub ruledOf : ℕ → ℕ → ℕ → Bool
-ruledOf zero n v = ltb (v + 1) n
-ruledOf (suc g) n v = ltb 0 v
-
-unfoldable pub edgeAt : ℕ → Sizes → Row → ℕ → List Rule
-edgeAt g ns m i = opt (ruledOf g (at ns i) (at m i)) (earlier ns m i ++ (literal g i (at m i) ∷ []))
 
 pub edge-left : (ns : Sizes) (m : Row) (i : ℕ) → edgeAt 1 ns m i ≡ leftAt ns m i
 unfolding edgeAt ruledOf leftAt
@@ -54,19 +47,6 @@ module _ (g n v : ℕ) where
       go : (g : ℕ) → g ≢ 0 → ltb 0 v ≡ ruledOf g n v
       go zero e = absurd (e refl)
       go (suc g) e = refl
-
--- what is asked of a table, of a row and of one side of it from a setting on
-pub record Sides (ns : Sizes) (table : List ℕ) (m : Row) (g from : ℕ) : Type 0 where
-  pub some : 1 ≤ length ns
-  pub few : length ns ≤ 16
-  pub rows : length (rowsOf (length ns) table) ≤ 512
-  pub same : length m ≡ length ns
-  pub begun : from ≤ length ns
-  pub sign : g < 2
-
--- the rules of the side from that setting on are sent
-abbrev pub SentEdges : Sizes → List ℕ → Row → ℕ → ℕ → ℕ → Tally → List ℕ → Tally → List ℕ → Type 0
-SentEdges ns table m g from family = Sent 16 family (rowsOf (length ns) table) (each (edgeAt g ns m) from (length ns - from))
 
 -- ---- settings
 

@@ -1,5 +1,5 @@
 -- Cases: the answers in document 01's order, each with what it says. A refusal writes nothing.
-use Prim.Native.Nat.{ℕ, zero, suc, _/_, _≤_, _<_}
+use Prim.Native.Nat.{ℕ, zero, suc, _≤_, _<_}
 use native.Mathlib.Omega.{arith}
 use mathlib.Core.Path.{_≡_, refl, ap}
 use mathlib.Core.Logic.{_≢_, inl, inr}
@@ -7,21 +7,21 @@ use mathlib.Core.List.{List, [], _∷_, _++_}
 use mathlib.Core.Option.{Option, none, some}
 use lib.ListN.{length, drop}
 use borrow.Author.Tests.{lt-ltb, le-ltb, le-leb, lt-leb}
-use Rattle.meaning.proofs.Tests.{lt-or-le}
 use Rattle.meaning.specs.Rows.{alike, at, rowsOf}
 use Rattle.meaning.specs.Rules.{Rule}
 use Rattle.meaning.specs.Closed.{ClosedFor, openRows, FirstOpenFor}
-use Rattle.meaning.proofs.Given.{open-none, open-first}
-use Rattle.meaning.proofs.Flat.{rows-whole}
 use Rattle.tables.specs.declared.Flaw.{Flaw}
 use Rattle.tables.specs.declared.Flaw.the-variants.{Limits, Length, Rows, Value, Order}
 use Rattle.tables.specs.declared.Checked.{Checked}
 use Rattle.tables.specs.declared.Checked.the-variants.{Sound, Flawed}
-use Rattle.tables.specs.Check.{checkedOf, Passes}
+use Rattle.tables.specs.Check.{checkedOf}
+use Rattle.meaning.proofs.Tests.{lt-or-le}
+use Rattle.meaning.proofs.Given.{open-none, open-first}
+use Rattle.meaning.proofs.Flat.{rows-whole}
 use Rattle.tables.proofs.laws.Promised.{checked-sound}
 use Rattle.makers.specs.declared.Made.{Made}
 use Rattle.makers.specs.declared.Made.the-variants.{Book, Family, Room, Flawed as Refused}
-use Rattle.makers.specs.Made.{numberOf, valuesOf, rulesMade, bytesMade, openAs, unlessFlawed, unlessOpen, fitting, bookAlike, closedOf, madeOf}
+use Rattle.makers.specs.Made.{numberOf, valuesOf, rulesMade, bytesMade, openAs, unlessFlawed, unlessOpen, fitting, bookAlike, closedOf, madeOf, Tested}
 
 -- ---- the numbers
 
@@ -37,12 +37,6 @@ flaw-number Length = omega arith
 flaw-number (Rows k) = omega arith
 flaw-number (Value p) = omega arith
 flaw-number (Order k) = omega arith
-
--- ---- the cases
-
--- a sound table of rows of l values below n
-abbrev pub Tested : ℕ → ℕ → List ℕ → Type 0
-Tested n l table = Passes n l table (length table / l)
 
 module _ (n l family : ℕ) (table : List ℕ) where
   abbrev rules : List Rule

@@ -9,18 +9,15 @@ use Rattle.meaning.specs.Lists.{each}
 use Rattle.meaning.specs.Rows.{Row, Sizes, rowsOf}
 use Rattle.meaning.specs.Rules.{Rule, Part, done, skip, hold}
 use Rattle.meaning.specs.General.{rowRules, general}
-use Rattle.meaning.proofs.Flat.{rows-count}
-use Rattle.meaning.proofs.Made.{reduceFor-part}
 use Rattle.hand.specs.declared.Hand.{Hand}
 use Rattle.hand.specs.Inner.{ruleIn, Holding}
+use Rattle.meaning.proofs.Flat.{rows-count}
+use Rattle.meaning.proofs.Made.{reduceFor-part}
 use Rattle.makers.specs.declared.sending.Tally.{Tally}
-use Rattle.makers.specs.Sending.{State, send, send-more, sends, sendsFor, sendsFor-append, Countable, Sent}
-use Rattle.makers.specs.Edges.{each-on, each-end}
-use Rattle.makers.specs.Making.{Given, given-count, SentRow}
-
--- all rules of the table are sent: at most 33 a row
-abbrev pub SentAll : Sizes → List ℕ → ℕ → Tally → List ℕ → Tally → List ℕ → Type 0
-SentAll ns table family = Sent 16896 family (rowsOf (length ns) table) (general ns (rowsOf (length ns) table))
+use Rattle.makers.specs.Inner.{State, send, sends, sendsFor, Countable, Given, SentRow, SentAll}
+use Rattle.makers.proofs.laws.Sending.{send-more, sendsFor-append}
+use Rattle.makers.proofs.laws.Edges.{each-on, each-end}
+use Rattle.makers.proofs.laws.Making.{given-count}
 
 -- ---- rows
 

@@ -1,5 +1,5 @@
 -- Middle: the rule between two rows that part at a setting.
-use Prim.Native.Nat.{ℕ, _+_, _≤_, _<_}
+use Prim.Native.Nat.{ℕ, _+_, _<_}
 use native.Mathlib.Omega.{arith}
 use mathlib.Core.Path.{_≡_, _∙_}
 use mathlib.Core.Bool.{Bool}
@@ -7,29 +7,17 @@ use mathlib.Core.List.{List, [], _∷_, _++_, append-assoc}
 use lib.Dec.{ltb}
 use lib.ListN.{length, length-append}
 use Rattle.meaning.specs.Lists.{opt}
-use Rattle.meaning.proofs.All.{All-append}
 use Rattle.meaning.specs.Rows.{Row, Sizes, at, rowsOf}
 use Rattle.meaning.specs.Rules.{atMost, atLeast, setting}
 use Rattle.meaning.specs.General.{earlier, midAt}
 use Rattle.hand.specs.declared.Hand.{Hand}
-use Rattle.hand.proofs.laws.Hand.{rule-length}
 use Rattle.hand.specs.Inner.{ruleIn, Holding, Ready}
+use Rattle.meaning.proofs.All.{All-append}
+use Rattle.hand.proofs.laws.Hand.{rule-length}
 use Rattle.makers.specs.declared.sending.Tally.{Tally}
-use Rattle.makers.specs.Sending.{Sent}
-use Rattle.makers.specs.Earlier.{Spare, held-count, earlier-few}
-use Rattle.makers.specs.Edges.{earlier-known}
-
--- what is asked of a table and of two rows that part at setting i
-pub record Apart (ns : Sizes) (table : List ℕ) (m m′ : Row) (i : ℕ) : Type 0 where
-  pub few : length ns ≤ 16
-  pub rows : length (rowsOf (length ns) table) ≤ 512
-  pub same : length m ≡ length ns
-  pub same′ : length m′ ≡ length ns
-  pub inside : i < length ns
-
--- the rule between them is sent
-abbrev pub SentBetween : Sizes → List ℕ → Row → Row → ℕ → ℕ → Tally → List ℕ → Tally → List ℕ → Type 0
-SentBetween ns table m m′ i family = Sent 1 family (rowsOf (length ns) table) (midAt ns m m′ i)
+use Rattle.makers.specs.Inner.{Spare, Sent, Apart, SentBetween}
+use Rattle.makers.proofs.laws.Earlier.{held-count, earlier-few}
+use Rattle.makers.proofs.laws.Edges.{earlier-known}
 
 module _ (ns : Sizes) (table : List ℕ) (m m′ : Row) (i : ℕ) (asked : Apart ns table m m′ i) (h : Hand) (hd : Holding (earlier ns m i) h) where
   pub apart-spare : Spare h 2

@@ -18,9 +18,8 @@ use Rattle.tables.proofs.laws.Promised.{checked-sound}
 use Rattle.tables.specs.Inner.{shown}
 use Rattle.makers.specs.declared.Made.{Made}
 use Rattle.makers.specs.declared.Made.the-variants.{Family, Pair, Triple, Flawed as Refused}
-use Rattle.makers.specs.Making.{Given}
+use Rattle.makers.specs.Inner.{Given, bookOf}
 use Rattle.makers.specs.Made.{bookAlike, closedOf, madeOf}
-use Rattle.makers.specs.Writing.{bookOf}
 
 module _ (n l family : ℕ) (table : List ℕ) where
   pub alike-given : (s : ℕ) → s ≡ n → Passes n l table (length table / l) → Given (take l (replicate 16 s)) table (length table / length (take l (replicate 16 s)))

@@ -11,36 +11,17 @@ use Rattle.meaning.specs.Rules.{Rule}
 use Rattle.meaning.specs.General.{general}
 use Rattle.meaning.specs.Families.{rulesFor}
 use Rattle.meaning.specs.Bytes.{encodeRules, encodeHead, encodeEnd, encode}
+use Rattle.books.specs.Inner.{putAt, Puts}
 use Rattle.meaning.proofs.Encoded.{encode-length}
 use Rattle.books.proofs.laws.Put.{putAt-length, putAt-putAt, putIn-fits}
-use Rattle.books.specs.Inner.{putAt, Puts}
 use Rattle.makers.specs.declared.Made.{Made}
 use Rattle.makers.specs.declared.Made.the-variants.{Book, Room}
 use Rattle.makers.specs.declared.sending.Tally.{Tally}
-use Rattle.makers.specs.Sending.{State, sends-length, sends-room, sendsFor, Sent}
+use Rattle.makers.specs.Inner.{State, sendsFor, Sent, Needed, bookOf, Writable, Wrote}
 use Rattle.makers.specs.Made.{fitting}
-use Rattle.makers.specs.Measuring.{Needed}
-
--- ---- the book, or refusal 8
-
-unfoldable pub bookOf : ℕ → Sizes → ℕ → List Row → List ℕ → Made × List ℕ
-bookOf n ns family rows room = fitting (encode n (length ns) family (rulesFor family ns rows)) (length (rulesFor family ns rows)) room
+use Rattle.makers.proofs.laws.Sending.{sends-length, sends-room}
 
 -- ---- the bytes
-
--- the room is long enough for the book of so many rules
-pub record Writable (n : ℕ) (ns : Sizes) (family : ℕ) (rows : List Row) (count : ℕ) (room : List ℕ) : Type 0 where
-  pub n-small : n ≤ 64
-  pub l-small : length ns ≤ 16
-  pub families : family ≤ 3
-  pub few : count ≤ 16896
-  pub count-is : count ≡ length (rulesFor family ns rows)
-  pub fits : length (encode n (length ns) family (rulesFor family ns rows)) ≤ length room
-
--- the bytes stand at the start of the room, and what is beyond them as it did
-pub record Wrote (bytes old : List ℕ) (length-is : ℕ) (new : List ℕ) : Type 0 where
-  pub long : length-is ≡ length bytes
-  pub room : new ≡ bytes ++ drop (length bytes) old
 
 -- one write after another from the start of the room
 put-more : (old xs ys : List ℕ) (at : ℕ) (mid new : List ℕ) → mid ≡ putAt old 0 xs → at ≡ length xs → length xs + length ys ≤ length old

@@ -14,18 +14,14 @@ use Rattle.meaning.specs.Rows.{Row, Sizes, at}
 use Rattle.meaning.specs.Rules.{Literal, atMost, atLeast, Rule}
 use Rattle.meaning.specs.General.{differs, earlier}
 use Rattle.hand.specs.declared.Hand.{Hand}
-use Rattle.hand.proofs.laws.Hand.{rule-length}
 use Rattle.hand.specs.Inner.{ruleIn, Sane, Holding}
+use Rattle.hand.proofs.laws.Hand.{rule-length}
+use Rattle.makers.specs.Inner.{Spare}
 
 -- ---- a hand
 
 pub held-count : (r : Rule) (h : Hand) → Holding r h → h .count ≡ length r
 held-count r h hd = sym (rule-length h) ∙ ap length (hd .rule)
-
--- a hand with places for k literals more
-pub record Spare (h : Hand) (k : ℕ) : Type 0 where
-  pub sane : Sane h
-  pub places : h .count + k ≤ 32
 
 -- ---- one literal more, or none
 

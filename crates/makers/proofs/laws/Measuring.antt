@@ -1,5 +1,5 @@
 -- Measuring: the length of a table's book, known before a byte is written.
-use Prim.Native.Nat.{ℕ, _+_, _≤_, _<_}
+use Prim.Native.Nat.{ℕ, _+_, _≤_}
 use native.Mathlib.Omega.{arith}
 use mathlib.Core.Path.{_≡_, refl, sym, ap, _∙_}
 use mathlib.Core.List.{List, [], _∷_, map}
@@ -12,20 +12,8 @@ use Rattle.meaning.specs.Bytes.{encodeRule, encodeRules}
 use Rattle.meaning.proofs.Encoded.{encodeRule-length}
 use Rattle.meaning.proofs.Made.{rules-parts}
 use Rattle.makers.specs.declared.sending.Tally.{Tally}
-use Rattle.makers.specs.Sending.{State, sends-length, sends-rules, sendsFor, Sent}
-
--- the rules so many, and the book so long
-pub record Measured (ns : Sizes) (family : ℕ) (rows : List Row) (t : Tally) : Type 0 where
-  pub length-is : t .length ≡ 9 + length (encodeRules (rulesFor family ns rows))
-  pub rules-is : t .rules ≡ length (rulesFor family ns rows)
-  pub few : t .rules ≤ 16896
-
--- as long as the book at least, and just as long where the space is less
-pub record Needed (ns : Sizes) (family : ℕ) (rows : List Row) (space : ℕ) (t : Tally) : Type 0 where
-  pub enough : 9 + length (encodeRules (rulesFor family ns rows)) ≤ t .length
-  pub exact : space < t .length → t .length ≡ 9 + length (encodeRules (rulesFor family ns rows))
-  pub rules-is : t .rules ≡ length (rulesFor family ns rows)
-  pub few : t .rules ≤ 16896
+use Rattle.makers.specs.Inner.{State, sendsFor, Sent, Measured, Needed}
+use Rattle.makers.proofs.laws.Sending.{sends-length, sends-rules}
 
 pub measured-sent : (ns : Sizes) (family : ℕ) (rows : List Row) (t : Tally) (old new : List ℕ)
     → Sent 16896 family rows (general ns rows) (record { length = 7; rules = 0 }) old t new → Measured ns family rows (record { length = t .length + 2; rules = t .rules })

@@ -12,32 +12,14 @@ use Rattle.meaning.specs.Rules.{Rule}
 use Rattle.meaning.specs.Families.{reduceFor}
 use Rattle.meaning.specs.Bytes.{encodeRule, encodeRules}
 use Rattle.hand.specs.declared.Hand.{Hand}
-use Rattle.hand.proofs.laws.Hand.{rule-length, sane-bytes}
 use Rattle.hand.specs.Inner.{ruleIn, Sane, Holding}
+use Rattle.books.specs.Inner.{putAt, putIn, Puts, ruleRecord}
+use Rattle.hand.proofs.laws.Hand.{rule-length, sane-bytes}
 use Rattle.meaning.proofs.Encoded.{encodeRule-length}
 use Rattle.books.proofs.laws.Records.{ruleRecord-is}
 use Rattle.books.proofs.laws.Put.{putAt-length, putAt-nothing, putAt-putAt, putIn-fits}
-use Rattle.books.specs.Inner.{putAt, putIn, Puts, ruleRecord}
 use Rattle.makers.specs.declared.sending.Tally.{Tally}
-
--- how far a book has come, and the room that it is written to
-abbrev pub State : Type 0
-State = Tally × List ℕ
-
--- one rule: its record over the room where it fits, and counted in any case
-unfoldable pub send : Rule → State → State
-send r s = (
-  record { length = s .0 .length + length (encodeRule r); rules = s .0 .rules + 1 },
-  putIn (s .1) (s .0 .length) (encodeRule r),
-)
-
-unfoldable pub sends : List Rule → State → State
-sends [] s = s
-sends (r ∷ rs) s = sends rs (send r s)
-
--- each reduced for the family
-unfoldable pub sendsFor : ℕ → List Row → List Rule → State → State
-sendsFor family rows rs s = sends (map (reduceFor family rows) rs) s
+use Rattle.makers.specs.Inner.{State, send, sends, sendsFor, Countable, Sent}
 
 -- ---- laws
 
@@ -95,17 +77,6 @@ pub send-few : (h : Hand) → Sane h → length (take (3 * h .count) (h .bytes))
 send-few h s = rw (length-take-le (3 * h .count) (h .bytes) (send-bytes h s)) (omega (arith, s .few))
 
 -- ---- the state after some slots, of which each sends at most one rule of at most 32 literals
-
--- k slots more can be counted
-pub record Countable (t : Tally) (k : ℕ) : Type 0 where
-  pub bytes : t .length + 99 * k ≤ 4294967295
-  pub number : t .rules + k ≤ 4294967295
-
--- the rules, reduced for the family, are sent from the state (t, old) on, at most k of them
-pub record Sent (k family : ℕ) (rows : List Row) (rs : List Rule) (t : Tally) (old : List ℕ) (t′ : Tally) (new : List ℕ) : Type 0 where
-  pub state : _≡_ {A = State} (t′, new) (sendsFor family rows rs (t, old))
-  pub longer : t′ .length ≤ t .length + 99 * k
-  pub more : t′ .rules ≤ t .rules + k
 
 -- the tally after a rule of a sane hand
 pub send-more : (h : Hand) (t t′ : Tally) (old new : List ℕ) → Sane h → _≡_ {A = State} (t′, new) (send (ruleIn h) (t, old))

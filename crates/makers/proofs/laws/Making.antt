@@ -1,42 +1,25 @@
 -- Making: the rules of a table as they are sent, row by row.
-use Prim.Native.Nat.{ℕ, zero, suc, _+_, _-_, _/_, _≤_, _<_}
+use Prim.Native.Nat.{ℕ, zero, suc, _+_, _-_, _≤_, _<_}
 use native.Mathlib.Numerals.{add-one}
 use native.Mathlib.Omega.{arith}
 use mathlib.Core.Path.{_≡_, refl, sym, ap, _∙_}
 use mathlib.Core.List.{List, _++_}
-use lib.Dec.{T}
+use mathlib.Core.Logic.{inl, inr}
 use lib.ListN.{length}
 use borrow.Author.Tests.{lt-ltb, le-ltb}
-use mathlib.Core.Logic.{inl, inr}
+use Rattle.meaning.specs.Lists.{each}
+use Rattle.meaning.specs.Rows.{Row, Sizes, at, row, rowsOf}
+use Rattle.meaning.specs.Rules.{Rule}
+use Rattle.meaning.specs.General.{split, fork, leftAt, rightAt, middle, rowRules}
 use Rattle.meaning.proofs.Tests.{lt-or-le}
 use Rattle.meaning.proofs.Flat.{rows-count, row-length}
 use Rattle.meaning.proofs.Members.{sound-next}
 use Rattle.meaning.proofs.Parting.{less-inside, before-less}
-use Rattle.makers.specs.declared.sending.Tally.{Tally}
-use Rattle.makers.specs.Sending.{State, sends, sendsFor, sendsFor-append, Sent}
-use Rattle.makers.specs.Edges.{edgeAt, edge-left, edge-right, Sides, SentEdges}
-use Rattle.makers.specs.Middle.{Apart, SentBetween}
-use Rattle.meaning.specs.Lists.{each}
 use Rattle.meaning.proofs.ListLaws.{each-ext}
-use Rattle.meaning.specs.Rows.{Row, Sizes, at, row, rowsOf, sound}
-use Rattle.meaning.specs.Rules.{Rule}
-use Rattle.meaning.specs.General.{split, fork, leftAt, rightAt, middle, rowRules}
-
--- a sound table of so many rows over the sizes
-pub record Given (ns : Sizes) (table : List ℕ) (rows : ℕ) : Type 0 where
-  pub some : 1 ≤ length ns
-  pub few : length ns ≤ 16
-  pub count : rows ≡ length table / length ns
-  pub most : rows ≤ 512
-  pub right : T (sound ns (rowsOf (length ns) table))
-
--- the middle rule of row k is sent
-abbrev pub SentMiddle : Sizes → List ℕ → ℕ → ℕ → Tally → List ℕ → Tally → List ℕ → Type 0
-SentMiddle ns table k family = Sent 1 family (rowsOf (length ns) table) (middle ns (rowsOf (length ns) table) k)
-
--- all rules of row k are sent: at most 16 left, 16 right and the middle
-abbrev pub SentRow : Sizes → List ℕ → ℕ → ℕ → Tally → List ℕ → Tally → List ℕ → Type 0
-SentRow ns table k family = Sent 33 family (rowsOf (length ns) table) (rowRules ns (rowsOf (length ns) table) k)
+use Rattle.makers.specs.declared.sending.Tally.{Tally}
+use Rattle.makers.specs.Inner.{State, sends, sendsFor, edgeAt, Sides, SentEdges, Apart, SentBetween, Given, SentMiddle, SentRow}
+use Rattle.makers.proofs.laws.Sending.{sendsFor-append}
+use Rattle.makers.proofs.laws.Edges.{edge-left, edge-right}
 
 module _ (ns : Sizes) (table : List ℕ) (rows : ℕ) (given : Given ns table rows) where
   abbrev R : List Row

@@ -1,0 +1,12 @@
+pub mod Earlier
+pub mod Sending
+pub mod Edges
+pub mod Middle
+pub mod Making
+pub mod Measuring
+pub mod Writing
+pub mod Refusals
+pub mod AllRows
+pub mod Parts
+pub mod Cases
+pub mod Promised
