@@ -6,7 +6,6 @@ use lib.Dec.{leb, eqb}
 use lib.ListN.{length, take, drop, replicate}
 use Rattle.meaning.specs.Rows.{Row, Sizes, alike, begins}
 use Rattle.listing.specs.declared.cursor.Cursor.{Cursor}
-use Rattle.listing.specs.Sizes.{inLimits}
 
 -- the prefix that a cursor is
 abbrev pub prefixOf : Cursor → Row
@@ -57,6 +56,10 @@ alongIn ns c = moveTo ns c (nextValue (prefixOf c))
 
 abbrev pub upIn : Sizes → Cursor → Cursor
 upIn ns c = moveTo ns c (oneShorter (prefixOf c))
+
+-- n from 1 to 64 and l from 1 to 16
+unfoldable pub inLimits : ℕ → ℕ → Bool
+inLimits n l = (leb 1 n && leb n 64) && (leb 1 l && leb l 16)
 
 -- the moves of edition 1: the same cursor where n or l is outside its limits
 unfoldable pub downOf : ℕ → ℕ → Cursor → Cursor

@@ -1,7 +1,7 @@
 -- Pages: the answer of a page, in document 01's words.
 use Prim.Native.Nat.{ℕ, _/_}
 use mathlib.Core.Bool.{Bool, cond, _||_}
-use mathlib.Core.List.{List, _++_}
+use mathlib.Core.List.{List, _++_, [], _∷_}
 use lib.Dec.{eqb, ltb}
 use lib.ListN.{length, drop}
 use Rattle.meaning.specs.Rows.{Row, Sizes, alike}
@@ -15,7 +15,6 @@ use Rattle.listing.specs.declared.paging.Paged.{Paged}
 use Rattle.listing.specs.declared.paging.Outcome.{Outcome}
 use Rattle.listing.specs.declared.paging.Outcome.the-variants.{Listed, BadCursor, NoRoom, BadBudget, Faulty as Unread}
 use Rattle.listing.specs.Cursors.{prefixOf, cursorOf, cursorOk}
-use Rattle.listing.specs.Filled.{flat}
 
 -- the answer, and the bytes of the lent room
 abbrev pub P : Type 0
@@ -24,6 +23,11 @@ P = Paged × List ℕ
 -- a refusal: the given cursor, and the room as it was
 abbrev pub refused : Cursor → Outcome → List ℕ → P
 refused c u o = (record { cursor = c; outcome = u }, o)
+
+-- rows one after another, as they stand in the room
+abbrev pub flat : List Row → List ℕ
+flat [] = []
+flat (x ∷ xs) = x ++ flat xs
 
 -- a page of rows: they stand at the room's start, and the bytes past them stay
 abbrev pub told : List ℕ → Page → P

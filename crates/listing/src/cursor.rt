@@ -3,9 +3,8 @@ ghost use mathlib.Core.Path.{_≡_};
 ghost use mathlib.Core.List.{[]};
 ghost use Prim.Native.Nat.{_+_, _≤_, _<_};
 ghost use lib.ListN.{length};
-ghost use Rattle.listing.specs.Cursors.{cursorOf, fits, clean, downIn, alongIn, upIn, downOf, alongOf, upOf};
-ghost use Rattle.listing.specs.CursorTests.{Cleaned, Tested};
-ghost use Rattle.listing.specs.Sizes.{Limited, inLimits};
+ghost use Rattle.listing.specs.Cursors.{cursorOf, fits, clean, downIn, alongIn, upIn, downOf, alongOf, upOf, inLimits};
+ghost use Rattle.listing.specs.Inner.{Limited, Cleaned, Tested};
 
 // A prefix: its length, and sixteen values of which those past the length are 0. Laid out as C has it.
 #[repr(C)]

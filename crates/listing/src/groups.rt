@@ -16,12 +16,7 @@ ghost use lib.ListN.{length};
 ghost use Rattle.meaning.specs.Bytes.{endAt, ruleAt, rulesIn};
 ghost use Rattle.meaning.specs.Listing.{dead};
 ghost use Rattle.listing.specs.Cursors.{prefixOf};
-ghost use Rattle.listing.specs.Prefixes.{Plain};
-ghost use Rattle.listing.specs.Standing.{Stands, AllStand};
-ghost use Rattle.listing.specs.Parting.{settleList, settleCount, Parted};
-ghost use Rattle.listing.specs.Sifting.{wantedOf, Siftable, Narrowable, Narrowed};
-ghost use Rattle.listing.specs.Grouping.{Filled, Grouped};
-ghost use Rattle.listing.specs.Looking.{Shows, Asks, Askable, Asked, Open, Looks};
+ghost use Rattle.listing.specs.Inner.{Plain, Stands, AllStand, settleList, settleCount, Parted, Shows, Asks, Askable, Asked, Open, Looks, wantedOf, Siftable, Narrowable, Narrowed, Filled, Grouped};
 
 // A place as a number.
 fn place(x: u32) -> usize

@@ -15,10 +15,8 @@ ghost use Rattle.meaning.specs.Bytes.{rulesIn};
 ghost use Rattle.meaning.specs.Listing.{dead};
 ghost use Rattle.meaning.specs.Inner.{allLast};
 ghost use Rattle.listing.specs.Cursors.{prefixOf};
-ghost use Rattle.listing.specs.Prefixes.{Plain};
-ghost use Rattle.listing.specs.Ending.{finishedOf};
+ghost use Rattle.listing.specs.Inner.{Plain, finishedOf, Numbers, Standard, Starts};
 ghost use Rattle.listing.specs.Pages.{P, listedIn, pageIn, pageOf};
-ghost use Rattle.listing.specs.Paging.{Numbers, Standard, Starts};
 
 // How a page ends: with so many rows and steps, and whether it is finished; or refused.
 pub enum Outcome {

@@ -9,12 +9,7 @@ ghost use lib.ListN.{length};
 ghost use Rattle.meaning.specs.Bytes.{endAt, ruleAt, rulesAt};
 ghost use Rattle.meaning.specs.Listing.{dead};
 ghost use Rattle.listing.specs.Cursors.{prefixOf};
-ghost use Rattle.listing.specs.Prefixes.{Plain};
-ghost use Rattle.listing.specs.Standing.{Stands};
-ghost use Rattle.listing.specs.Early.{holdsBy, earlyOf};
-ghost use Rattle.listing.specs.Interval.{intervalOf};
-ghost use Rattle.listing.specs.Judging.{Judges};
-ghost use Rattle.listing.specs.Windows.{widenOf, Window, Scans};
+ghost use Rattle.listing.specs.Inner.{Plain, Stands, holdsBy, earlyOf, intervalOf, Judges, widenOf, Window, Scans};
 
 // A byte as a number.
 pub fn wide(x: u8) -> usize

@@ -1,7 +1,7 @@
 // A set of values below 64 as one number: its bit v says whether v may follow a prefix.
 ghost use mathlib.Core.Path.{_≡_};
 ghost use Prim.Native.Nat.{_≤_, _<_};
-ghost use Rattle.listing.specs.Values.{Forbids, forbidden};
+ghost use Rattle.listing.specs.Inner.{Forbids, forbidden};
 
 // The set without the values from low up to below high.
 pub fn without(set: u64, low: usize, high: usize) -> u64

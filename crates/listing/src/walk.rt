@@ -17,19 +17,7 @@ ghost use Rattle.meaning.specs.Bytes.{rulesIn, rulesAt};
 ghost use Rattle.meaning.specs.Listing.{dead};
 ghost use Rattle.books.specs.Inner.{putAt};
 ghost use Rattle.listing.specs.Cursors.{prefixOf};
-ghost use Rattle.listing.specs.Prefixes.{Plain, pushOf};
-ghost use Rattle.listing.specs.Standing.{AllStand};
-ghost use Rattle.listing.specs.Course.{part, fromOf, pastOf};
-ghost use Rattle.listing.specs.Steps.{S, walkOf, moveOf, inwardOf, runs, Fits, Ready};
-ghost use Rattle.listing.specs.Sizes.{Limited};
-ghost use Rattle.listing.specs.Turns.{Allows, skipOf, Skips};
-ghost use Rattle.listing.specs.Leaves.{leafRows, leafRoom, leafOf};
-ghost use Rattle.listing.specs.Ruled.{Kept};
-ghost use Rattle.listing.specs.Looking.{Open};
-ghost use Rattle.listing.specs.Sifting.{Narrowable, Narrowed};
-ghost use Rattle.listing.specs.Holding.{OpenIf, LooksIf};
-ghost use Rattle.listing.specs.Resuming.{Along};
-ghost use Rattle.listing.specs.Starting.{Resumes};
+ghost use Rattle.listing.specs.Inner.{Limited, Plain, pushOf, AllStand, Kept, Open, Narrowable, Narrowed, part, fromOf, pastOf, S, walkOf, moveOf, inwardOf, runs, Fits, Ready, OpenIf, LooksIf, Allows, skipOf, Skips, Along, Resumes, leafRows, leafRoom, leafOf};
 
 // What a page has done so far: the last prefix visited and whether it is dead, the rows written, the steps made.
 pub struct Walk {

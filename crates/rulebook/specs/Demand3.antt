@@ -18,9 +18,8 @@ use Rattle.books.specs.declared.Reading.the-variants.{Book}
 use Rattle.books.specs.Format.{readOf}
 use Rattle.listing.specs.Cursors.{cursorOf, prefixOf}
 use Rattle.listing.specs.Pages.{pageOf}
-use Rattle.listing.specs.Answers.{finishedIn, stepsIn}
-use Rattle.listing.specs.Promise as promise
-use Rattle.listing.specs.Promise.{runOf, allMade, lastDone, Enough, Whole}
+use Rattle.listing.proofs.laws.Promise as promise
+use Rattle.listing.specs.Promise.{runOf, allMade, lastDone, Enough, Whole, finishedIn, stepsIn}
 
 module _ (b : List ℕ) (n l family k : ℕ) (accepted : readOf b ≡ Book n l family k) where
   -- 'Any accepted book, typed or made, listed page by page with any room and budget, ends, and shows every permitted combination

@@ -1,7 +1,7 @@
 -- `back`: each way out is a lemma of specs/Moves.
 use native.Mathlib.Omega.{arith}
 use borrow.Author.Needs.{needs}
-use Rattle.listing.specs.Moves.{move-bad, up-start, up-on, last-known}
+use Rattle.listing.proofs.laws.Moves.{move-bad, up-start, up-on, last-known}
 use Rattle.listing.proofs.cursor.back.Statement.{statement}
 use Rattle.listing.proofs.cursor.back.Tie as tie
 

@@ -4,7 +4,7 @@ use native.Mathlib.Omega.{arith}
 use mathlib.Core.Path.{sym, _∙_}
 use lib.ListN.{length-map}
 use borrow.Author.Needs.{needs}
-use Rattle.listing.specs.CursorTests.{Cleaning, cleaning-start, cleaning-on, cleaning-no, cleaning-end}
+use Rattle.listing.proofs.laws.CursorTests.{Cleaning, cleaning-start, cleaning-on, cleaning-no, cleaning-end}
 use Rattle.listing.proofs.cursor.clean.Statement.{statement}
 use Rattle.listing.proofs.cursor.clean.Tie as tie
 

@@ -1,7 +1,7 @@
 -- `cursor_ok`: three tests of a cursor, three lemmas of specs/CursorTests.
 use native.Mathlib.Omega.{arith}
 use borrow.Author.Needs.{needs}
-use Rattle.listing.specs.CursorTests.{tested-long, tested-unfit, tested-clean}
+use Rattle.listing.proofs.laws.CursorTests.{tested-long, tested-unfit, tested-clean}
 use Rattle.listing.proofs.cursor.cursor_ok.Statement.{statement}
 use Rattle.listing.proofs.cursor.cursor_ok.Tie as tie
 

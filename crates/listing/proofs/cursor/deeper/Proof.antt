@@ -1,7 +1,7 @@
 -- `deeper`: each way out is a lemma of specs/Moves.
 use native.Mathlib.Omega.{arith}
 use borrow.Author.Needs.{needs}
-use Rattle.listing.specs.Moves.{move-bad, down-fits, down-full, down-on}
+use Rattle.listing.proofs.laws.Moves.{move-bad, down-fits, down-full, down-on}
 use Rattle.listing.proofs.cursor.deeper.Statement.{statement}
 use Rattle.listing.proofs.cursor.deeper.Tie as tie
 

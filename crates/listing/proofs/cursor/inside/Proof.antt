@@ -4,7 +4,7 @@ use native.Mathlib.Omega.{arith}
 use mathlib.Core.Path.{sym, _∙_}
 use lib.ListN.{length-map}
 use borrow.Author.Needs.{needs}
-use Rattle.listing.specs.CursorTests.{Fitting, fitting-start, fitting-on, fitting-no, fitting-end}
+use Rattle.listing.proofs.laws.CursorTests.{Fitting, fitting-start, fitting-on, fitting-no, fitting-end}
 use Rattle.listing.proofs.cursor.inside.Statement.{statement}
 use Rattle.listing.proofs.cursor.inside.Tie as tie
 

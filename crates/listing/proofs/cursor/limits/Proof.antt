@@ -1,6 +1,6 @@
 -- `limits`: each way out is a lemma of specs/Sizes.
 use native.Mathlib.Omega.{arith}
-use Rattle.listing.specs.Sizes.{limits-none, limits-many, limits-empty, limits-last}
+use Rattle.listing.proofs.laws.Sizes.{limits-none, limits-many, limits-empty, limits-last}
 use Rattle.listing.proofs.cursor.limits.Statement.{statement}
 use Rattle.listing.proofs.cursor.limits.Tie as tie
 

@@ -1,7 +1,7 @@
 -- `onward`: each way out is a lemma of specs/Moves.
 use native.Mathlib.Omega.{arith}
 use borrow.Author.Needs.{needs}
-use Rattle.listing.specs.Moves.{move-bad, along-start, along-last, along-on, last-known}
+use Rattle.listing.proofs.laws.Moves.{move-bad, along-start, along-last, along-on, last-known}
 use Rattle.listing.proofs.cursor.onward.Statement.{statement}
 use Rattle.listing.proofs.cursor.onward.Tie as tie
 

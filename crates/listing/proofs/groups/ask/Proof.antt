@@ -1,5 +1,5 @@
 use native.Mathlib.Omega.{arith}
-use Rattle.listing.specs.Looking.{asks-still, asks-judged}
+use Rattle.listing.proofs.laws.Looking.{asks-still, asks-judged}
 use borrow.Author.Needs.{needs}
 use Rattle.listing.proofs.groups.ask.Statement.{statement}
 use Rattle.listing.proofs.groups.ask.Tie as tie

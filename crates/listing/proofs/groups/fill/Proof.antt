@@ -1,6 +1,6 @@
 use borrow.Author.Needs.{needs}
 use native.Mathlib.Omega.{arith}
-use Rattle.listing.specs.Grouping.{Filling, filling-start, filling-inside, filling-on, filling-end}
+use Rattle.listing.proofs.laws.Grouping.{Filling, filling-start, filling-inside, filling-on, filling-end}
 use Prim.Native.Nat.{_-_}
 use Rattle.listing.proofs.groups.fill.Statement.{statement}
 use Rattle.listing.proofs.groups.fill.Tie as tie

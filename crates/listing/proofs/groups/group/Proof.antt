@@ -1,6 +1,6 @@
 use borrow.Author.Needs.{needs}
 use native.Mathlib.Omega.{arith}
-use Rattle.listing.specs.Looking.{Asking, asking-start, asking-next, asking-on, asking-end}
+use Rattle.listing.proofs.laws.Looking.{Asking, asking-start, asking-next, asking-on, asking-end}
 use lib.ListN.{length}
 use Prim.Native.Nat.{_-_}
 use Rattle.listing.specs.Cursors.{prefixOf}

@@ -1,4 +1,4 @@
-use Rattle.listing.specs.Looking.{look-askable, look-looks, open-run, open-window}
+use Rattle.listing.proofs.laws.Looking.{look-askable, look-looks, open-run, open-window}
 use borrow.Author.Needs.{needs}
 use Rattle.listing.proofs.groups.look.Statement.{statement}
 use Rattle.listing.proofs.groups.look.Tie as tie

@@ -1,6 +1,6 @@
 use borrow.Author.Needs.{needs}
 use native.Mathlib.Omega.{arith}
-use Rattle.listing.specs.Sifting.{Narrowing, narrowing-start, narrowing-next, narrowing-on, narrowing-end}
+use Rattle.listing.proofs.laws.Sifting.{Narrowing, narrowing-start, narrowing-next, narrowing-on, narrowing-end}
 use lib.ListN.{length}
 use Prim.Native.Nat.{_-_}
 use Rattle.listing.specs.Cursors.{prefixOf}

@@ -1,6 +1,6 @@
 use native.Mathlib.Omega.{arith}
 use lib.ListN.{length-set}
-use Rattle.listing.specs.Parting.{settle-no, settle-yes}
+use Rattle.listing.proofs.laws.Parting.{settle-no, settle-yes}
 use borrow.Author.Needs.{needs}
 use Rattle.listing.proofs.groups.settle.Statement.{statement}
 use Rattle.listing.proofs.groups.settle.Tie as tie

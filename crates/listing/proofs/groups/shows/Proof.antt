@@ -1,5 +1,5 @@
 use native.Mathlib.Omega.{arith}
-use Rattle.listing.specs.Looking.{shows-not, shows-by}
+use Rattle.listing.proofs.laws.Looking.{shows-not, shows-by}
 use borrow.Author.Needs.{needs}
 use Rattle.listing.proofs.groups.shows.Statement.{statement}
 use Rattle.listing.proofs.groups.shows.Tie as tie

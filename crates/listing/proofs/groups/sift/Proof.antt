@@ -1,6 +1,7 @@
 use borrow.Author.Needs.{needs}
 use native.Mathlib.Omega.{arith}
-use Rattle.listing.specs.Sifting.{Sifting, wantedOf, sifting-start, sifting-inside, sifting-ends, sifting-on, sifting-end}
+use Rattle.listing.proofs.laws.Sifting.{Sifting, sifting-start, sifting-inside, sifting-ends, sifting-on, sifting-end}
+use Rattle.listing.specs.Inner.{wantedOf}
 use lib.ListN.{length}
 use Prim.Native.Nat.{_-_}
 use Rattle.listing.specs.Cursors.{prefixOf}

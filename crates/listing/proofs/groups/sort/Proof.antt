@@ -2,7 +2,7 @@ use borrow.Author.Needs.{needs}
 use native.Mathlib.Omega.{arith}
 use mathlib.Core.Path.{_≡_, refl, _∙_}
 use lib.ListN.{length}
-use Rattle.listing.specs.Grouping.{Sorting, sorting-start, sorting-next, sorting-on, sorting-end, root-plain}
+use Rattle.listing.proofs.laws.Grouping.{Sorting, sorting-start, sorting-next, sorting-on, sorting-end, root-plain}
 use Prim.Native.Nat.{_-_}
 use Rattle.listing.proofs.groups.sort.Statement.{statement}
 use Rattle.listing.proofs.groups.sort.Tie as tie

@@ -1,5 +1,5 @@
 use native.Mathlib.Omega.{arith}
-use Rattle.listing.specs.Sifting.{wanted-last, wanted-holds, wanted-left}
+use Rattle.listing.proofs.laws.Sifting.{wanted-last, wanted-holds, wanted-left}
 use borrow.Author.Needs.{needs}
 use Rattle.listing.proofs.groups.wanted.Statement.{statement}
 use Rattle.listing.proofs.groups.wanted.Tie as tie

@@ -2,7 +2,7 @@
 use borrow.Author.Needs.{needs}
 use native.Mathlib.Omega.{arith}
 use Prim.Native.Nat.{_-_}
-use Rattle.listing.specs.Ending.{Lasting, lasting-start, lasting-on, lasting-no, lasting-end}
+use Rattle.listing.proofs.laws.Ending.{Lasting, lasting-start, lasting-on, lasting-no, lasting-end}
 use Rattle.listing.proofs.paging.all_last.Statement.{statement}
 use Rattle.listing.proofs.paging.all_last.Tie as tie
 

@@ -1,7 +1,7 @@
 -- `finished`: four ways out, four lemmas of specs/Ending.
 use borrow.Author.Needs.{needs}
 use native.Mathlib.Omega.{arith}
-use Rattle.listing.specs.Ending.{ends-unmoved, ends-full, ends-dead, ends-live}
+use Rattle.listing.proofs.laws.Ending.{ends-unmoved, ends-full, ends-dead, ends-live}
 use Rattle.listing.proofs.paging.finished.Statement.{statement}
 use Rattle.listing.proofs.paging.finished.Tie as tie
 

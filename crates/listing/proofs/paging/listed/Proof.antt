@@ -1,6 +1,6 @@
 -- `listed`: the walk's contract, turned into the page of the statement by specs/Paging.
 use borrow.Author.Needs.{needs}
-use Rattle.listing.specs.Paging.{listed-resumes, listed-last, listed-page}
+use Rattle.listing.proofs.laws.Paging.{listed-resumes, listed-last, listed-page}
 use Rattle.listing.proofs.paging.listed.Statement.{statement}
 use Rattle.listing.proofs.paging.listed.Tie as tie
 

@@ -1,7 +1,7 @@
 -- `page`: by what reading the book gives; each way out is a lemma of specs/Refusing.
 use borrow.Author.Needs.{needs}
 use native.Mathlib.Omega.{arith}
-use Rattle.listing.specs.Refusing.{page-unread, page-numbers, page-read}
+use Rattle.listing.proofs.laws.Refusing.{page-unread, page-numbers, page-read}
 use Rattle.listing.proofs.paging.page.Statement.{statement}
 use Rattle.listing.proofs.paging.page.Tie as tie
 

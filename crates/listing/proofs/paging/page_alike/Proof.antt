@@ -1,7 +1,7 @@
 -- `page_alike`: sixteen bytes n, of which the first l are lent, are the sizes of edition 1.
 use borrow.Author.Needs.{needs}
-use Rattle.listing.specs.Sizes.{lent-length}
-use Rattle.listing.specs.Refusing.{alike-standard, page-alike}
+use Rattle.listing.proofs.laws.Sizes.{lent-length}
+use Rattle.listing.proofs.laws.Refusing.{alike-standard, page-alike}
 use Rattle.listing.proofs.paging.page_alike.Statement.{statement}
 use Rattle.listing.proofs.paging.page_alike.Tie as tie
 

@@ -3,7 +3,7 @@ use borrow.Author.Needs.{needs}
 use native.Mathlib.Omega.{arith}
 use Rattle.meaning.specs.Bytes.{rulesIn}
 use Rattle.meaning.specs.Listing.{dead}
-use Rattle.listing.specs.Refusing.{page-bad, page-no-room, page-no-budget, page-big-budget, page-listed, page-starts}
+use Rattle.listing.proofs.laws.Refusing.{page-bad, page-no-room, page-no-budget, page-big-budget, page-listed, page-starts}
 use Rattle.listing.proofs.paging.page_in.Statement.{statement}
 use Rattle.listing.proofs.paging.page_in.Tie as tie
 

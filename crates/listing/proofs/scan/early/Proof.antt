@@ -1,7 +1,7 @@
 -- `early`: what is left from here gives the whole; each way out is a lemma of specs/Early.
 use borrow.Author.Needs.{needs}
 use native.Mathlib.Omega.{arith}
-use Rattle.listing.specs.Early.{Passing, passing-start, passing-later, passing-holds, passing-on, passing-end}
+use Rattle.listing.proofs.laws.Early.{Passing, passing-start, passing-later, passing-holds, passing-on, passing-end}
 use lib.ListN.{take}
 use Rattle.listing.proofs.scan.early.Statement.{statement}
 use Rattle.listing.proofs.scan.early.Tie as tie

@@ -1,6 +1,6 @@
 -- `holds`: two ways out, two lemmas of specs/Early.
 use native.Mathlib.Omega.{arith}
-use Rattle.listing.specs.Early.{holds-most, holds-least}
+use Rattle.listing.proofs.laws.Early.{holds-most, holds-least}
 use Rattle.listing.proofs.scan.holds.Statement.{statement}
 use Rattle.listing.proofs.scan.holds.Tie as tie
 

@@ -1,7 +1,7 @@
 -- `interval`: four ways out, four lemmas of specs/Interval.
 use borrow.Author.Needs.{needs}
 use native.Mathlib.Omega.{arith}
-use Rattle.listing.specs.Interval.{interval-none, interval-least, interval-most, interval-both}
+use Rattle.listing.proofs.laws.Interval.{interval-none, interval-least, interval-most, interval-both}
 use Rattle.listing.proofs.scan.interval.Statement.{statement}
 use Rattle.listing.proofs.scan.interval.Tie as tie
 

@@ -1,5 +1,5 @@
 use native.Mathlib.Omega.{arith}
-use Rattle.listing.specs.Judging.{judges-empty, judges-past, judges-holds, judged-inside, judges-lasts, judges-interval}
+use Rattle.listing.proofs.laws.Judging.{judges-empty, judges-past, judges-holds, judged-inside, judges-lasts, judges-interval}
 use borrow.Author.Needs.{needs}
 use Rattle.listing.proofs.scan.judge.Statement.{statement}
 use Rattle.listing.proofs.scan.judge.Tie as tie

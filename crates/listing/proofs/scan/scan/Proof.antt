@@ -3,7 +3,7 @@ use borrow.Author.Needs.{needs}
 use native.Mathlib.Omega.{arith}
 use Prim.Native.Nat.{_-_}
 use Rattle.listing.specs.Cursors.{prefixOf}
-use Rattle.listing.specs.Windows.{Scanning, scanning-start, scanning-on, scanning-next, scanning-end}
+use Rattle.listing.proofs.laws.Windows.{Scanning, scanning-start, scanning-on, scanning-next, scanning-end}
 use Rattle.listing.proofs.scan.scan.Statement.{statement}
 use Rattle.listing.proofs.scan.scan.Tie as tie
 

@@ -1,7 +1,7 @@
 -- `widen`: three ways out, three lemmas of specs/Windows.
 use borrow.Author.Needs.{needs}
 use native.Mathlib.Omega.{arith}
-use Rattle.listing.specs.Windows.{widen-not, widen-first, widen-more}
+use Rattle.listing.proofs.laws.Windows.{widen-not, widen-first, widen-more}
 use Rattle.listing.proofs.scan.widen.Statement.{statement}
 use Rattle.listing.proofs.scan.widen.Tie as tie
 

@@ -1,5 +1,5 @@
 use mathlib.Core.Path.{refl}
-use Rattle.listing.specs.Values.{forbidden, bit}
+use Rattle.listing.specs.Inner.{forbidden, bit}
 use borrow.Author.Needs.{needs}
 use Rattle.listing.proofs.values.lacks.Statement.{statement}
 use Rattle.listing.proofs.values.lacks.Tie as tie

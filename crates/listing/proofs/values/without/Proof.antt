@@ -1,5 +1,5 @@
 use native.Mathlib.Omega.{arith}
-use Rattle.listing.specs.Values.{without-none, without-some, without-low, without-sum, without-both}
+use Rattle.listing.proofs.laws.Values.{without-none, without-some, without-low, without-sum, without-both}
 use borrow.Author.Needs.{needs}
 use Rattle.listing.proofs.values.without.Statement.{statement}
 use Rattle.listing.proofs.values.without.Tie as tie

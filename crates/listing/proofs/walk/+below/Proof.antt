@@ -8,10 +8,11 @@ use lib.ListN.{length}
 use Rattle.meaning.specs.Bytes.{rulesIn}
 use Rattle.meaning.specs.Listing.{dead}
 use Rattle.listing.specs.Cursors.{prefixOf}
-use Rattle.listing.specs.Ruled.{kept-same}
-use Rattle.listing.specs.Turns.{Going, going-start, going-rows, going-steps, going-end, going-on, below-none, next-plain, next-fits, next-ready, inward-less, skips-whole}
-use Rattle.listing.specs.Holding.{Held, held-start, held-on, able-narrowed, looks-kept}
-use Rattle.listing.specs.Resuming.{next-small, next-dead, next-open-if, one-ready, one-allows, one-below, looks-allows}
+use Rattle.listing.proofs.laws.Ruled.{kept-same}
+use Rattle.listing.proofs.laws.Turns.{going-start, going-rows, going-steps, going-end, going-on, below-none, next-plain, next-fits, next-ready, inward-less, skips-whole}
+use Rattle.listing.specs.Inner.{Going}
+use Rattle.listing.proofs.laws.Holding.{Held, held-start, held-on, able-narrowed, looks-kept}
+use Rattle.listing.proofs.laws.Resuming.{next-small, next-dead, next-open-if, one-ready, one-allows, one-below, looks-allows}
 use Prim.Native.Nat.{ℕ, _<_}
 use borrow.Fn.Kinds.{In}
 use borrow.Fn.PlainCycle.{Measures, is, falls, and}

@@ -5,10 +5,10 @@ use mathlib.Core.Path.{sym, _∙_}
 use Rattle.meaning.specs.Bytes.{rulesIn}
 use Rattle.meaning.specs.Listing.{dead}
 use Rattle.listing.specs.Cursors.{prefixOf}
-use Rattle.listing.specs.Ruled.{kept-same, kept-on}
-use Rattle.listing.specs.Steps.{ready-same}
-use Rattle.listing.specs.Holding.{able-kept, able-narrowed, kept-below, looks-kept}
-use Rattle.listing.specs.Resuming.{resume-here, resume-small, resume-next, resume-on, resume-skip, next-dead, next-open}
+use Rattle.listing.proofs.laws.Ruled.{kept-same, kept-on}
+use Rattle.listing.proofs.laws.Steps.{ready-same}
+use Rattle.listing.proofs.laws.Holding.{able-kept, able-narrowed, kept-below, looks-kept}
+use Rattle.listing.proofs.laws.Resuming.{resume-here, resume-small, resume-next, resume-on, resume-skip, next-dead, next-open}
 use Prim.Native.Nat.{ℕ, _<_}
 use borrow.Fn.Kinds.{In}
 use borrow.Fn.PlainCycle.{Measures, is, falls, and}

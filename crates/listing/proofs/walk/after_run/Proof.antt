@@ -1,5 +1,5 @@
 use mathlib.Core.Path.{refl}
-use Rattle.listing.specs.Turns.{skipped-none, skipped-some}
+use Rattle.listing.proofs.laws.Turns.{skipped-none, skipped-some}
 use borrow.Author.Needs.{needs}
 use Rattle.listing.proofs.walk.after_run.Statement.{statement}
 use Rattle.listing.proofs.walk.after_run.Tie as tie

@@ -1,7 +1,7 @@
 use lib.ListN.{length}
 use native.Mathlib.Omega.{arith}
-use Rattle.listing.specs.Standing.{stand-front}
-use Rattle.listing.specs.Starting.{start-ready, start-open, start-on}
+use Rattle.listing.proofs.laws.Standing.{stand-front}
+use Rattle.listing.proofs.laws.Starting.{start-ready, start-open, start-on}
 use borrow.Author.Needs.{needs}
 use Rattle.listing.proofs.walk.begin.Statement.{statement}
 use Rattle.listing.proofs.walk.begin.Tie as tie

@@ -2,7 +2,7 @@
 use borrow.Author.Needs.{needs}
 use native.Mathlib.Omega.{arith}
 use Prim.Native.Nat.{_-_}
-use Rattle.listing.specs.Starting.{Seeking, seeking-start, seeking-end, seeking-inside, seeking-yes, seeking-on}
+use Rattle.listing.proofs.laws.Starting.{Seeking, seeking-start, seeking-end, seeking-inside, seeking-yes, seeking-on}
 use Rattle.listing.proofs.walk.hopeless.Statement.{statement}
 use Rattle.listing.proofs.walk.hopeless.Tie as tie
 

@@ -1,7 +1,7 @@
 -- `inward`: by cases.
 use borrow.Author.Needs.{needs}
 use mathlib.Core.Path.{sym, ap}
-use Rattle.listing.specs.Steps.{inwardOf}
+use Rattle.listing.specs.Inner.{inwardOf}
 use Rattle.listing.proofs.walk.inward.Statement.{statement}
 use Rattle.listing.proofs.walk.inward.Tie as tie
 

@@ -1,5 +1,5 @@
 use native.Mathlib.Omega.{arith}
-use Rattle.listing.specs.Leaves.{leaf-dead, leaf-live}
+use Rattle.listing.proofs.laws.Leaves.{leaf-dead, leaf-live}
 use borrow.Author.Needs.{needs}
 use Rattle.listing.proofs.walk.leaf.Statement.{statement}
 use Rattle.listing.proofs.walk.leaf.Tie as tie

@@ -1,4 +1,4 @@
-use Rattle.listing.specs.Leaves.{leafed-none, leafed-some}
+use Rattle.listing.proofs.laws.Leaves.{leafed-none, leafed-some}
 use borrow.Author.Needs.{needs}
 use Rattle.listing.proofs.walk.leafed.Statement.{statement}
 use Rattle.listing.proofs.walk.leafed.Tie as tie

@@ -1,6 +1,6 @@
 use borrow.Author.Needs.{needs}
 use native.Mathlib.Omega.{arith}
-use Rattle.listing.specs.Leaves.{Leafing, leafing-start, leafing-room, leafing-rows, leafing-on, leafing-end}
+use Rattle.listing.proofs.laws.Leaves.{Leafing, leafing-start, leafing-room, leafing-rows, leafing-on, leafing-end}
 use Prim.Native.Nat.{_-_}
 use mathlib.Core.Logic.{inl, inr}
 use Rattle.meaning.specs.Bytes.{rulesIn}

@@ -1,5 +1,5 @@
 use native.Mathlib.Omega.{arith}
-use Rattle.listing.specs.Holding.{looks-none}
+use Rattle.listing.proofs.laws.Holding.{looks-none}
 use borrow.Author.Needs.{needs}
 use Rattle.listing.proofs.walk.look_if.Statement.{statement}
 use Rattle.listing.proofs.walk.look_if.Tie as tie

@@ -4,7 +4,7 @@ use native.Mathlib.Omega.{arith}
 use Prim.Native.Nat.{_-_}
 use lib.ListN.{take}
 use Rattle.books.proofs.laws.Put.{Copied}
-use Rattle.listing.specs.Copying.{row-start, row-on, row-end}
+use Rattle.listing.proofs.laws.Copying.{row-start, row-on, row-end}
 use Rattle.listing.proofs.walk.put_row.Statement.{statement}
 use Rattle.listing.proofs.walk.put_row.Tie as tie
 

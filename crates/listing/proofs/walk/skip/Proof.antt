@@ -4,7 +4,7 @@ use Prim.Native.Nat.{_-_}
 use borrow.Author.Tests.{not-false}
 use Rattle.meaning.specs.Bytes.{rulesIn}
 use Rattle.meaning.specs.Listing.{dead}
-use Rattle.listing.specs.Turns.{Skipping, skips-none, skipping-start, skipping-on, skipping-end}
+use Rattle.listing.proofs.laws.Turns.{Skipping, skips-none, skipping-start, skipping-on, skipping-end}
 use Rattle.listing.proofs.walk.skip.Statement.{statement}
 use Rattle.listing.proofs.walk.skip.Tie as tie
 

@@ -1,4 +1,4 @@
-use Rattle.listing.specs.Starting.{start-dead, start-live}
+use Rattle.listing.proofs.laws.Starting.{start-dead, start-live}
 use borrow.Author.Needs.{needs}
 use Rattle.listing.proofs.walk.start.Statement.{statement}
 use Rattle.listing.proofs.walk.start.Tie as tie

@@ -1,7 +1,7 @@
 -- `visit`: three ways out, three lemmas of specs/Steps; a row fits because fewer are written than fit.
 use borrow.Author.Needs.{needs}
 use native.Mathlib.Omega.{arith}
-use Rattle.listing.specs.Steps.{fits-row, move-dead, move-row, move-short}
+use Rattle.listing.proofs.laws.Steps.{fits-row, move-dead, move-row, move-short}
 use Rattle.listing.proofs.walk.visit.Statement.{statement}
 use Rattle.listing.proofs.walk.visit.Tie as tie
 

@@ -1,8 +1,8 @@
 -- `up`: sixteen bytes n, of which the first l are lent, are the sizes of edition 1.
 use native.Mathlib.Omega.{arith}
 use borrow.Author.Needs.{needs}
-use Rattle.listing.specs.Sizes.{limits-known, lent-length, lent-limited}
-use Rattle.listing.specs.Moves.{up-outside, up-lent}
+use Rattle.listing.proofs.laws.Sizes.{limits-known, lent-length, lent-limited}
+use Rattle.listing.proofs.laws.Moves.{up-outside, up-lent}
 use Rattle.listing.proofs.cursor.Cursor.up.Statement.{statement}
 use Rattle.listing.proofs.cursor.Cursor.up.Tie as tie
 

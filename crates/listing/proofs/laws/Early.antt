@@ -4,7 +4,7 @@ use native.Mathlib.Omega.{arith}
 use mathlib.Core.Path.{_≡_, refl, sym, ap, _∙_}
 use mathlib.Core.Bool.{Bool, true, false, cond}
 use mathlib.Core.List.{List}
-use lib.Dec.{leb, eqb}
+use lib.Dec.{leb}
 use lib.ListN.{length, getD}
 use lib.Seq.{getD-take}
 use borrow.Author.Tests.{le-leb, lt-leb, eq-eqb, ne-eqb}
@@ -12,21 +12,10 @@ use Rattle.meaning.specs.Rows.{Row, at}
 use Rattle.meaning.specs.Rules.{holds}
 use Rattle.meaning.specs.Bytes.{literal, literalAt}
 use Rattle.listing.specs.declared.cursor.Cursor.{Cursor}
-use Rattle.listing.specs.declared.scan.Passed.{Passed}
 use Rattle.listing.specs.declared.scan.Passed.the-variants.{Holds, Left}
 use Rattle.listing.specs.Cursors.{prefixOf}
-use Rattle.listing.specs.Prefixes.{Plain, plain-length}
-
--- a literal of sign g and bound d, of the value v
-unfoldable pub holdsBy : ℕ → ℕ → ℕ → Bool
-holdsBy g d v = cond (eqb g 0) (leb v d) (leb d v)
-
--- of k literals from place p on: the first that is on a setting of the prefix x and holds; else what is left from the first on a
--- later setting on
-unfoldable pub earlyOf : List ℕ → Row → ℕ → ℕ → Passed
-earlyOf b x p zero = Left p 0
-earlyOf b x p (suc k) =
-    cond (leb (length x) (getD b p 0)) (Left p (suc k)) (cond (holds (literalAt b p) x) (Holds p) (earlyOf b x (p + 3) k))
+use Rattle.listing.specs.Inner.{Plain, holdsBy, earlyOf}
+use Rattle.listing.proofs.laws.Prefixes.{plain-length}
 
 -- ---- the ways out
 

@@ -8,60 +8,47 @@ use mathlib.Core.List.{List, [], _∷_, _++_}
 use lib.Dec.{eqb}
 use lib.ListN.{length, getD}
 use borrow.Author.Tests.{eq-eqb, ne-eqb, eqb-true}
-use Rattle.meaning.proofs.Tests.{case, is, isnt}
-use Rattle.meaning.specs.Lists.{each}
 use Rattle.meaning.specs.Rows.{Row, Sizes}
 use Rattle.meaning.specs.Listing.{below}
+use Rattle.meaning.proofs.Tests.{case, is, isnt}
 use Rattle.listing.specs.declared.cursor.Cursor.{Cursor}
 use Rattle.listing.specs.declared.walk.Walk.{Walk}
 use Rattle.listing.specs.Cursors.{prefixOf}
-use Rattle.listing.specs.Prefixes.{Plain, pushOf, push-same, push-prefix, push-plain}
-use Rattle.listing.specs.Values.{forbidden}
-use Rattle.listing.specs.Course.{part, part-cons, branchOf, fromOf, stopAt, below-from}
-use Rattle.listing.specs.Steps.{S, walkOf, moveOf, inwardOf, goesOn, visitOf, runs, runs-nil, runs-cons, runs-append, runs-shut, shut-rows, shut-steps, open-both, Fits, Ready}
+use Rattle.listing.specs.Inner.{Plain, pushOf, forbidden, part, branchOf, fromOf, S, walkOf, moveOf, inwardOf, goesOn, visitOf, runs, Fits, Ready, leftAt, wholeOf, Going, Allows, skipOf, Skips}
+use Rattle.listing.proofs.laws.Prefixes.{push-same, push-prefix, push-plain}
+use Rattle.listing.proofs.laws.Course.{part-cons, stopAt, below-from}
+use Rattle.listing.proofs.laws.Steps.{runs-nil, runs-cons, runs-append, runs-shut, shut-rows, shut-steps, open-both}
 
 pub inward-less : (b : Bool) (k : ℕ) → (k ≡ 0 → ⊥) → inwardOf b k < k
 inward-less true k h = omega arith
 inward-less false k h = omega arith
 
 module _ (d : Row → Bool) (ns : Sizes) (cur : Cursor) (levels fit budget : ℕ) where
-  -- the values from v on, of n
-  abbrev leftAt : ℕ → ℕ → List Row
-  leftAt n v = each (branchOf d (part ns (cur .len + 1) (levels - 1)) (prefixOf cur)) v (n - v)
-
-  -- the whole, as the contract has it
-  abbrev pub wholeOf : ℕ → S → S
-  wholeOf v t = runs d (length ns) fit budget (fromOf d (part ns (cur .len) levels) (prefixOf cur) v) t
-
-  pub record Going (from : ℕ) (st : Walk) (o₀ o : List ℕ) (w : Walk) (v : ℕ) : Type 0 where
-    pub long : length o ≡ length o₀
-    pub left : runs d (length ns) fit budget (leftAt (getD ns (cur .len) 0) v) (w, o) ≡ wholeOf from (st, o₀)
-
-  pub going-start : (from : ℕ) (st : Walk) (o : List ℕ) → (levels ≡ 0 → ⊥) → Going from st o o st from
+  pub going-start : (from : ℕ) (st : Walk) (o : List ℕ) → (levels ≡ 0 → ⊥) → Going d ns cur levels fit budget from st o o st from
   going-start from st o h = record { long = refl; left = rw (part-cons ns (cur .len) levels h) }
 
-  pub below-none : (from : ℕ) (st : Walk) (o : List ℕ) → levels ≡ 0 → _≡_ {A = S} (st, o) (wholeOf from (st, o))
+  pub below-none : (from : ℕ) (st : Walk) (o : List ℕ) → levels ≡ 0 → _≡_ {A = S} (st, o) (wholeOf d ns cur levels fit budget from (st, o))
   below-none from st o h = rw h (sym (runs-nil d (length ns) fit budget (st, o)))
 
   module _ (from : ℕ) (st : Walk) (o₀ o : List ℕ) (w : Walk) (v : ℕ) where
-    going-shut : Going from st o₀ o w v → goesOn fit budget w ≡ false → _≡_ {A = S} (w, o) (wholeOf from (st, o₀))
-    going-shut g h = sym (runs-shut d (length ns) fit budget (leftAt (getD ns (cur .len) 0) v) (w, o) h) ∙ g .left
+    going-shut : Going d ns cur levels fit budget from st o₀ o w v → goesOn fit budget w ≡ false → _≡_ {A = S} (w, o) (wholeOf d ns cur levels fit budget from (st, o₀))
+    going-shut g h = sym (runs-shut d (length ns) fit budget (leftAt d ns cur levels fit budget (getD ns (cur .len) 0) v) (w, o) h) ∙ g .left
 
-    pub going-rows : Going from st o₀ o w v → fit ≤ w .rows → _≡_ {A = S} (w, o) (wholeOf from (st, o₀))
+    pub going-rows : Going d ns cur levels fit budget from st o₀ o w v → fit ≤ w .rows → _≡_ {A = S} (w, o) (wholeOf d ns cur levels fit budget from (st, o₀))
     going-rows g h = going-shut g (shut-rows fit budget w h)
 
-    pub going-steps : Going from st o₀ o w v → budget ≤ w .steps → _≡_ {A = S} (w, o) (wholeOf from (st, o₀))
+    pub going-steps : Going d ns cur levels fit budget from st o₀ o w v → budget ≤ w .steps → _≡_ {A = S} (w, o) (wholeOf d ns cur levels fit budget from (st, o₀))
     going-steps g h = going-shut g (shut-steps fit budget w h)
 
-    pub going-end : Going from st o₀ o w v → getD ns (cur .len) 0 ≤ v → _≡_ {A = S} (w, o) (wholeOf from (st, o₀))
+    pub going-end : Going d ns cur levels fit budget from st o₀ o w v → getD ns (cur .len) 0 ≤ v → _≡_ {A = S} (w, o) (wholeOf d ns cur levels fit budget from (st, o₀))
     going-end g h =
         let e : getD ns (cur .len) 0 - v ≡ 0 = omega arith in
         sym (runs-nil d (length ns) fit budget (w, o)) ∙ (rw e at (g .left))
 
     -- one value: its visit, and what is below it
     pub turn : Plain cur → cur .len < 16 → v < getD ns (cur .len) 0 → w .rows < fit → w .steps < budget
-        → runs d (length ns) fit budget (leftAt (getD ns (cur .len) 0) v) (w, o)
-        ≡ runs d (length ns) fit budget (leftAt (getD ns (cur .len) 0) (v + 1))
+        → runs d (length ns) fit budget (leftAt d ns cur levels fit budget (getD ns (cur .len) 0) v) (w, o)
+        ≡ runs d (length ns) fit budget (leftAt d ns cur levels fit budget (getD ns (cur .len) 0) (v + 1))
         (runs d (length ns) fit budget (fromOf d (part ns (cur .len + 1) (inwardOf (d (prefixOf cur ++ (v ∷ []))) levels)) (prefixOf cur ++ (v ∷ [])) 0)
         (moveOf (length ns) (d (prefixOf cur ++ (v ∷ []))) (pushOf cur v) (w, o)))
     turn p h k r m =
@@ -69,14 +56,14 @@ module _ (d : Row → Bool) (ns : Sizes) (cur : Cursor) (levels fit budget : ℕ
         let below-it : Sizes = part ns (cur .len + 1) (levels - 1) in
         let x : Row = prefixOf cur ++ (v ∷ []) in
         let e : n - v ≡ suc (n - suc v) = omega arith in
-        let split : leftAt n v ≡ branchOf d below-it (prefixOf cur) v ++ leftAt n (v + 1) = rw (e, add-one v) in
+        let split : leftAt d ns cur levels fit budget n v ≡ branchOf d below-it (prefixOf cur) v ++ leftAt d ns cur levels fit budget n (v + 1) = rw (e, add-one v) in
         let seen : visitOf d (length ns) fit budget x (w, o) ≡ moveOf (length ns) (d x) (pushOf cur v) (w, o) =
         rw (open-both fit budget w r m) (ap (λ (c : Cursor). moveOf (length ns) (d x) c (w, o)) (sym (push-same cur v p h))) in
         let into : below d below-it x ≡ fromOf d (part ns (cur .len + 1) (inwardOf (d x) levels)) x 0 =
         below-from d below-it x ∙ ap (λ (u : Sizes). fromOf d u x 0) (deep (d x)) in
         ap (λ (L : List Row). runs d (length ns) fit budget L (w, o)) split
-        ∙ runs-append d (length ns) fit budget (branchOf d below-it (prefixOf cur) v) (leftAt n (v + 1)) (w, o)
-        ∙ ap (λ (t : S). runs d (length ns) fit budget (leftAt n (v + 1)) t)
+        ∙ runs-append d (length ns) fit budget (branchOf d below-it (prefixOf cur) v) (leftAt d ns cur levels fit budget n (v + 1)) (w, o)
+        ∙ ap (λ (t : S). runs d (length ns) fit budget (leftAt d ns cur levels fit budget n (v + 1)) t)
         (runs-cons d (length ns) fit budget x (below d below-it x) (w, o)
         ∙ ap (λ (t : S). runs d (length ns) fit budget (below d below-it x) t) seen
         ∙ ap (λ (L : List Row). runs d (length ns) fit budget L (moveOf (length ns) (d x) (pushOf cur v) (w, o))) into)
@@ -85,7 +72,7 @@ module _ (d : Row → Bool) (ns : Sizes) (cur : Cursor) (levels fit budget : ℕ
         deep true = refl
         deep false = refl
 
-    module _ (y : Ready ns o₀ cur levels fit) (g : Going from st o₀ o w v) (z : levels ≡ 0 → ⊥) (next : Cursor) (n : next ≡ pushOf cur v) where
+    module _ (y : Ready ns o₀ cur levels fit) (g : Going d ns cur levels fit budget from st o₀ o w v) (z : levels ≡ 0 → ⊥) (next : Cursor) (n : next ≡ pushOf cur v) where
       next-prefix : prefixOf next ≡ prefixOf cur ++ (v ∷ [])
       next-prefix = ap (λ (u : Cursor). prefixOf u) n ∙ push-prefix cur v (y .plain) (omega (arith, y .deep, y .limited .short))
 
@@ -96,7 +83,7 @@ module _ (d : Row → Bool) (ns : Sizes) (cur : Cursor) (levels fit budget : ℕ
           → (seen : Walk) (o₁ : List ℕ) → _≡_ {A = S} (seen, o₁) (moveOf (length ns) b next (w, o)) → length o₁ ≡ length o
           → (k : ℕ) → k ≡ inwardOf b levels
           → (r : Walk) (o₂ : List ℕ) → _≡_ {A = S} (r, o₂) (runs d (length ns) fit budget (fromOf d (part ns (next .len) k) (prefixOf next) 0) (seen, o₁)) → length o₂ ≡ length o₁
-          → Going from st o₀ o₂ r (v + 1)
+          → Going d ns cur levels fit budget from st o₀ o₂ r (v + 1)
       going-on h i j b e seen o₁ m lo k f r o₂ q lo₂ =
           let c : cur .len < 16 = omega (arith, y .deep, y .limited .short) in
           let x : Row = prefixOf cur ++ (v ∷ []) in
@@ -109,7 +96,7 @@ module _ (d : Row → Bool) (ns : Sizes) (cur : Cursor) (levels fit budget : ℕ
           ∙ ap (λ (a : ℕ). runs d (length ns) fit budget (fromOf d (part ns a (inwardOf (d x) levels)) (prefixOf next) 0) (seen, o₁)) next-len
           ∙ ap (λ (u : Row). runs d (length ns) fit budget (fromOf d (part ns (cur .len + 1) (inwardOf (d x) levels)) u 0) (seen, o₁)) next-prefix
           ∙ ap (λ (t : S). runs d (length ns) fit budget (fromOf d (part ns (cur .len + 1) (inwardOf (d x) levels)) x 0) t) m′ in
-          record { long = lo₂ ∙ lo ∙ g .long; left = ap (λ (t : S). runs d (length ns) fit budget (leftAt (getD ns (cur .len) 0) (v + 1)) t) q′ ∙ sym (turn (y .plain) c h i j) ∙ g .left }
+          record { long = lo₂ ∙ lo ∙ g .long; left = ap (λ (t : S). runs d (length ns) fit budget (leftAt d ns cur levels fit budget (getD ns (cur .len) 0) (v + 1)) t) q′ ∙ sym (turn (y .plain) c h i j) ∙ g .left }
 
       -- what the calls of a turn ask
       pub next-plain : Plain next
@@ -124,9 +111,6 @@ module _ (d : Row → Bool) (ns : Sizes) (cur : Cursor) (levels fit budget : ℕ
           record { cells = rw (lo ∙ g .long) (y .cells); plain = next-plain; deep = omega (arith, y .deep, f, next-len); limited = y .limited }
 
 -- ---- the last level: nothing is below its values
-
-pub record Allows (d : Row → Bool) (x : Row) (set : ℕ) : Type 0 where
-  pub is : (v : ℕ) → v < 64 → forbidden set v ≡ d (x ++ (v ∷ []))
 
 module _ (d : Row → Bool) (ns : Sizes) (cur : Cursor) (fit budget : ℕ) (from : ℕ) (st : Walk) (o₀ o : List ℕ) (w : Walk) (v : ℕ)
     (y : Ready ns o₀ cur 1 fit) (g : Going d ns cur 1 fit budget from st o₀ o w v) (next : Cursor) (n : next ≡ pushOf cur v) (h : v < getD ns (cur .len) 0) where
@@ -152,21 +136,13 @@ module _ (d : Row → Bool) (ns : Sizes) (cur : Cursor) (fit budget : ℕ) (from
 
 -- ---- a run of dead values: only the steps and the last prefix change
 
-abbrev pub skipOf : Walk → Cursor → ℕ → ℕ → Walk
-skipOf w cur v u = cond (eqb u v) w (walkOf (pushOf cur (u - 1)) true (w .rows) (w .steps + (u - v)))
-
 module _ (d : Row → Bool) (ns : Sizes) (cur : Cursor) (fit budget : ℕ) where
-  -- from the walk w at the value v to the walk r at u, with nothing left out
-  pub record Skips (w : Walk) (v : ℕ) (r : Walk) (u : ℕ) : Type 0 where
-    pub ahead : v ≤ u
-    pub on : (levels from : ℕ) (st : Walk) (o₀ o : List ℕ) → Going d ns cur levels fit budget from st o₀ o w v → Going d ns cur levels fit budget from st o₀ o r u
-
-  pub skips-none : (w : Walk) (v : ℕ) → Skips w v w v
+  pub skips-none : (w : Walk) (v : ℕ) → Skips d ns cur fit budget w v w v
   skips-none w v = record { ahead = omega arith; on = λ levels from st o₀ o g. g }
 
   pub record Skipping (w : Walk) (v steps u : ℕ) : Type 0 where
     pub count : steps ≡ w .steps + (u - v)
-    pub skips : Skips w v (skipOf w cur v u) u
+    pub skips : Skips d ns cur fit budget w v (skipOf w cur v u) u
 
   pub skipping-start : (w : Walk) (v : ℕ) → Skipping w v (w .steps) v
   skipping-start w v = record { count = omega arith; skips = rw (eq-eqb v v refl) (skips-none w v) }
@@ -214,11 +190,11 @@ module _ (d : Row → Bool) (ns : Sizes) (cur : Cursor) (fit budget : ℕ) where
             let q : w .steps + (u + 1 - v) ≡ w .steps + (u - v) + 1 = omega (arith, y .skips .ahead) in
             rw (ne-eqb (u + 1) v (λ c. omega (arith, y .skips .ahead)), skip-rows w v u, skip-steps w v u, n, q)
 
-    pub skipping-end : (r : Walk) (x : ℕ) → (r ≡ skipOf w cur v u) × (x ≡ u) → Skips w v r x
+    pub skipping-end : (r : Walk) (x : ℕ) → (r ≡ skipOf w cur v u) × (x ≡ u) → Skips d ns cur fit budget w v r x
     skipping-end r x e = rw (e .0, e .1) (y .skips)
 
   -- from the walk behind the run on, the whole is the same
-  pub skips-whole : (levels : ℕ) (w : Walk) (v : ℕ) (r : Walk) (u : ℕ) (o : List ℕ) → (levels ≡ 0 → ⊥) → Skips w v r u
+  pub skips-whole : (levels : ℕ) (w : Walk) (v : ℕ) (r : Walk) (u : ℕ) (o : List ℕ) → (levels ≡ 0 → ⊥) → Skips d ns cur fit budget w v r u
       → wholeOf d ns cur levels fit budget u (r, o) ≡ wholeOf d ns cur levels fit budget v (w, o)
   skips-whole levels w v r u o z s =
       sym (going-start d ns cur levels fit budget u r o z .left) ∙ s .on levels v w o o (going-start d ns cur levels fit budget v w o z) .left

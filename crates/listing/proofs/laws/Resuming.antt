@@ -13,15 +13,10 @@ use Rattle.listing.specs.declared.cursor.Cursor.{Cursor}
 use Rattle.listing.specs.declared.scan.Scanned.{Scanned}
 use Rattle.listing.specs.declared.walk.Walk.{Walk}
 use Rattle.listing.specs.Cursors.{prefixOf}
-use Rattle.listing.specs.Prefixes.{Plain, plain-length, pushOf, push-prefix, push-plain}
-use Rattle.listing.specs.Values.{forbidden}
-use Rattle.listing.specs.Ruled.{Ruled}
-use Rattle.listing.specs.Looking.{Open}
-use Rattle.listing.specs.Sifting.{Narrowed}
-use Rattle.listing.specs.Holding.{OpenIf, LooksIf}
-use Rattle.listing.specs.Course.{part, part-cons, fromOf, pastOf, below-from}
-use Rattle.listing.specs.Turns.{Allows}
-use Rattle.listing.specs.Steps.{S, inwardOf, runs, runs-nil, runs-append, Ready}
+use Rattle.listing.specs.Inner.{pushOf, forbidden, Ruled, Open, Narrowed, part, fromOf, pastOf, S, inwardOf, runs, Ready, OpenIf, LooksIf, Allows, Along}
+use Rattle.listing.proofs.laws.Prefixes.{plain-length, push-prefix, push-plain}
+use Rattle.listing.proofs.laws.Course.{part-cons, below-from}
+use Rattle.listing.proofs.laws.Steps.{runs-nil, runs-append}
 
 -- ---- what a look below cur tells of the prefix one longer
 
@@ -56,12 +51,6 @@ module _ (b : List ℕ) (d : Row → Bool) (ns : Sizes) (room : List ℕ) (cur :
           go false c o = sym c
 
 -- ---- the way along the cursor c, of which cur is the beginning
-
-pub record Along (ns : Sizes) (c cur : Cursor) (levels : ℕ) : Type 0 where
-  pub plain : Plain c
-  pub here : cur .len ≤ c .len
-  pub deep : c .len ≤ cur .len + levels
-  pub fits : (k : ℕ) → k < c .len → getD (c .values) k 0 < getD ns k 0
 
 pub past-none : (d : Row → Bool) (ns : Sizes) (p c : Row) → d p ≡ true → pastOf d ns p c ≡ []
 past-none d [] p [] h = refl

@@ -9,28 +9,21 @@ use lib.Dec.{T}
 use lib.ListN.{length, length-append, getD}
 use lib.Seq.{append-snoc}
 use borrow.Author.Tests.{le-leb, le-ltb, not-false}
-use Rattle.meaning.proofs.Tests.{is-yes, is-no}
 use Rattle.meaning.specs.Rows.{Row, at}
 use Rattle.meaning.specs.Rules.{Rule, met}
 use Rattle.meaning.specs.Bytes.{literalsAt, ruleAt}
 use Rattle.meaning.specs.Listing.{decided, dead}
+use Rattle.meaning.proofs.Tests.{is-yes, is-no}
 use Rattle.meaning.proofs.Dead.{met-prefix}
 use Rattle.listing.specs.declared.scan.Passed.{Passed}
 use Rattle.listing.specs.declared.scan.Passed.the-variants.{Holds, Left}
 use Rattle.listing.specs.declared.scan.Judged.{Judged}
 use Rattle.listing.specs.declared.cursor.Cursor.{Cursor}
 use Rattle.listing.specs.Cursors.{prefixOf}
-use Rattle.listing.specs.Prefixes.{Plain, plain-length}
-use Rattle.listing.specs.Standing.{Stands}
-use Rattle.listing.specs.Early.{earlyOf}
-use Rattle.listing.specs.Literals.{last-decides, last-open, early-holds, early-inside, Rest, early-rest}
-use Rattle.listing.specs.Interval.{forbids, between, intervalOf, met-interval, interval-small}
-
--- the contract: of the rule at place `at`, below the prefix x
-pub record Judges (b : List ℕ) (at : ℕ) (x : Row) (j : Judged) : Type 0 where
-  pub small : j .high ≤ 64
-  pub values : (v : ℕ) → v < 64 → dead (ruleAt b at ∷ []) (x ++ (v ∷ [])) ≡ between (j .low) (j .high) v
-  pub closed : j .lasts ≡ false → (v : ℕ) (y : Row) → dead (ruleAt b at ∷ []) (x ++ (v ∷ [])) ≡ false → dead (ruleAt b at ∷ []) (x ++ (v ∷ y)) ≡ false
+use Rattle.listing.specs.Inner.{Plain, Stands, earlyOf, forbids, between, intervalOf, Judges}
+use Rattle.listing.proofs.laws.Prefixes.{plain-length}
+use Rattle.listing.proofs.laws.Literals.{last-decides, last-open, early-holds, early-inside, Rest, early-rest}
+use Rattle.listing.proofs.laws.Interval.{met-interval, interval-small}
 
 -- ---- the ways out of `judge`
 

@@ -2,37 +2,22 @@
 use Prim.Native.Nat.{ℕ, zero, suc, _+_, _*_, _≤_, _<_}
 use native.Mathlib.Omega.{arith}
 use mathlib.Core.Path.{_≡_, refl, sym, _∙_}
-use mathlib.Core.Bool.{Bool, true, false, cond, not, _&&_, _||_, or-false}
+use mathlib.Core.Bool.{Bool, true, false, cond, not, _||_, or-false}
 use mathlib.Core.Logic.{inl, inr}
 use mathlib.Core.List.{List, [], _∷_, _++_}
-use lib.Dec.{T, leb, ltb, eqb}
+use lib.Dec.{T, leb, eqb}
 use lib.ListN.{length, getD}
 use lib.Seq.{getD-append-seam}
 use borrow.Author.Tests.{le-leb, lt-leb, lt-ltb, le-ltb, eq-eqb, ne-eqb, eqb-true, eqb-false}
-use Rattle.meaning.proofs.Tests.{case, is, isnt, lt-or-le}
 use Rattle.meaning.specs.Lists.{All}
 use Rattle.meaning.specs.Rows.{Row, at}
 use Rattle.meaning.specs.Rules.{bound, holds, met, key, Ordered}
 use Rattle.meaning.specs.Bytes.{literal, literalAt, literalsAt}
 use Rattle.meaning.specs.Listing.{decided}
+use Rattle.meaning.proofs.Tests.{case, is, isnt, lt-or-le}
 use Rattle.books.proofs.laws.Holds.{literal-setting-is, literal-bound-is}
-use Rattle.listing.specs.declared.scan.Judged.{Judged}
-use Rattle.listing.specs.Literals.{key-low, key-high, decided-here}
-
-abbrev pub forbids : ℕ → ℕ → Judged
-forbids low high = record { lasts = false; low = low; high = high; hint = 0 }
-
--- v is one of the values from low up to below high
-abbrev pub between : ℕ → ℕ → ℕ → Bool
-between low high v = leb low v && ltb v high
-
--- what k literals from p on, all on one setting, forbid there: "at most d" what is above d, "at least d" what is below d
-unfoldable pub intervalOf : List ℕ → ℕ → ℕ → Judged
-intervalOf b p k =
-    cond (eqb k 0) (forbids 0 64)
-    (cond (eqb (getD b (p + 1) 0) 0)
-    (cond (eqb k 1) (forbids (getD b (p + 2) 0 + 1) 64) (forbids (getD b (p + 2) 0 + 1) (getD b (p + 5) 0)))
-    (forbids 0 (getD b (p + 2) 0)))
+use Rattle.listing.specs.Inner.{forbids, between, intervalOf}
+use Rattle.listing.proofs.laws.Literals.{key-low, key-high, decided-here}
 
 -- ---- the ways out of `interval`
 

@@ -10,31 +10,18 @@ use lib.Seq.{getD-take}
 use borrow.Author.Tests.{le-ltb}
 use Rattle.meaning.specs.Rows.{Row, Sizes}
 use Rattle.meaning.specs.Rules.{setting, met}
-use Rattle.meaning.specs.Bytes.{literalAt, literalsAt, endAt, rulesAt, placeAt, wordAt, rulesIn}
+use Rattle.meaning.specs.Bytes.{literalAt, literalsAt, endAt, rulesAt, placeAt, rulesIn}
 use Rattle.meaning.specs.Listing.{decided, dead}
 use Rattle.listing.specs.declared.cursor.Cursor.{Cursor}
 use Rattle.listing.specs.declared.walk.Walk.{Walk}
-use Rattle.listing.specs.Sizes.{Limited}
+use Rattle.listing.specs.Inner.{Stands, AllStand, Ruled, Open, Narrowable, Grouped, pastOf, S, runs, Ready, Along, Resumes}
 use Rattle.listing.specs.Cursors.{prefixOf, cursorOf}
-use Rattle.listing.specs.Prefixes.{plain-cursor, plain-length, Good, begins-at}
-use Rattle.listing.specs.Standing.{Stands, AllStand}
 use Rattle.listing.specs.declared.groups.Groups.{Groups}
-use Rattle.listing.specs.Ruled.{Ruled}
-use Rattle.listing.specs.Looking.{Open}
-use Rattle.listing.specs.Sifting.{Narrowable}
-use Rattle.listing.specs.Grouping.{Grouped, grouped-ruled}
-use Rattle.listing.specs.Course.{part-all, pastOf}
-use Rattle.listing.specs.Steps.{S, runs, runs-nil, Ready}
-use Rattle.listing.specs.Resuming.{Along, past-none, resumeOf}
-
--- the rules of the book stand from place 7 on, the cursor is good, and so many rows fit
-pub record Resumes (b : List ℕ) (rules : ℕ) (ns : Sizes) (room : List ℕ) (c : Cursor) (fit : ℕ) : Type 0 where
-  pub limited : Limited ns
-  pub good : Good ns c
-  pub cells : fit * length ns ≤ length room
-  pub stand : AllStand b 7 rules
-  pub count : wordAt b 5 ≡ rules
-  pub few : rules ≤ 24576
+use Rattle.listing.proofs.laws.Prefixes.{plain-cursor, plain-length, begins-at}
+use Rattle.listing.proofs.laws.Grouping.{grouped-ruled}
+use Rattle.listing.proofs.laws.Course.{part-all}
+use Rattle.listing.proofs.laws.Steps.{runs-nil}
+use Rattle.listing.proofs.laws.Resuming.{past-none, resumeOf}
 
 -- ---- a rule without literals makes the empty prefix dead, and no other rule does
 

@@ -9,22 +9,11 @@ use lib.Dec.{eqb}
 use lib.Pow.{pow-pos, pow-lt, mod-pow-add, pow-mono, shr-shr, high, low, field, mod-mod-pow, ones-split, ones-lt, split}
 use borrow.Author.Tests.{le-leb, lt-leb, lt-ltb, le-ltb}
 use Rattle.meaning.proofs.Tests.{lt-or-le}
-use Rattle.listing.specs.Interval.{between}
-
--- bit v of s
-unfoldable pub bit : ℕ → ℕ → ℕ
-bit s v = s / 2 ^ v % 2
-
--- the value is forbidden
-unfoldable pub forbidden : ℕ → ℕ → Bool
-forbidden s v = eqb (bit s v) 0
+use Rattle.listing.specs.Inner.{between, bit, forbidden, Forbids}
 
 -- the set of all 64 values
 abbrev pub every : ℕ
 every = 18446744073709551615
-
-pub record Forbids (old : ℕ) (lo hi : ℕ) (new : ℕ) : Type 0 where
-  pub is : (v : ℕ) → v < 64 → forbidden new v ≡ between lo hi v || forbidden old v
 
 -- ---- bits of sums
 

@@ -9,7 +9,8 @@ use Rattle.books.proofs.laws.Put.{Copied, copied-start, copied-on, copied-end}
 use Rattle.books.specs.Inner.{putAt}
 use Rattle.listing.specs.declared.cursor.Cursor.{Cursor}
 use Rattle.listing.specs.Cursors.{prefixOf}
-use Rattle.listing.specs.Prefixes.{Plain, plain-length}
+use Rattle.listing.proofs.laws.Prefixes.{plain-length}
+use Rattle.listing.specs.Inner.{Plain}
 
 module _ (old : List ℕ) (at : ℕ) (q : Cursor) (l : ℕ) (plain : Plain q) (full : q .len ≡ l) (inside : at + l ≤ length old) where
   long : length (take l (q .values)) ≡ l

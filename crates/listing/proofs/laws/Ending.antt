@@ -3,9 +3,9 @@ use Prim.Native.Nat.{ℕ, suc, _+_, _≤_, _<_}
 use native.Mathlib.Numerals.{add-one}
 use native.Mathlib.Omega.{arith}
 use mathlib.Core.Path.{_≡_, refl, sym, _∙_}
-use mathlib.Core.Bool.{Bool, true, false, _&&_, _||_}
+use mathlib.Core.Bool.{Bool, true, false, _&&_}
 use mathlib.Core.List.{List, [], _∷_}
-use lib.Dec.{leb, eqb}
+use lib.Dec.{leb}
 use lib.ListN.{length, getD, take, drop, drop-of-length-le}
 use lib.Seq.{drop-cons, getD-take}
 use borrow.Author.Tests.{eq-eqb, ne-eqb, le-leb, lt-leb}
@@ -14,11 +14,8 @@ use Rattle.meaning.specs.Inner.{allLast}
 use Rattle.listing.specs.declared.cursor.Cursor.{Cursor}
 use Rattle.listing.specs.declared.walk.Walk.{Walk}
 use Rattle.listing.specs.Cursors.{prefixOf}
-use Rattle.listing.specs.Prefixes.{Plain, plain-length}
-
--- none is left: no step was made; or nothing is below the last prefix, and each of its values is the last of its setting
-unfoldable pub finishedOf : Sizes → Walk → Bool
-finishedOf ns w = eqb (w .steps) 0 || ((eqb (w .last .len) (length ns) || w .dead) && allLast ns (prefixOf (w .last)))
+use Rattle.listing.specs.Inner.{Plain, finishedOf}
+use Rattle.listing.proofs.laws.Prefixes.{plain-length}
 
 -- ---- the ways out of `finished`
 

@@ -2,36 +2,16 @@
 use Prim.Native.Nat.{ℕ, _+_, _≤_, _<_}
 use native.Mathlib.Omega.{arith}
 use mathlib.Core.Path.{_≡_, refl, sym, ap, _∙_}
-use mathlib.Core.Bool.{Bool, true, false}
-use mathlib.Core.Logic.{_⊎_, inl, inr}
+use mathlib.Core.Bool.{Bool}
+use mathlib.Core.Logic.{inl, inr}
 use mathlib.Core.List.{List, [], _∷_, _++_}
 use lib.ListN.{length, getD}
-use Rattle.meaning.proofs.Tests.{lt-or-le}
 use Rattle.meaning.specs.Rows.{Row}
-use Rattle.meaning.specs.Bytes.{ruleAt, rulesAt}
+use Rattle.meaning.specs.Bytes.{ruleAt}
 use Rattle.meaning.specs.Listing.{dead}
-use Rattle.listing.specs.Standing.{Stands, AllStand}
-use Rattle.listing.specs.Parting.{eq-or, Has, Stirred}
-
--- the groups lie one behind the other: group g from place `starts g` up to below `starts (g + 1)`, its front part up to below `ends g`
-pub record Laid (s e : List ℕ) (n : ℕ) : Type 0 where
-  pub starts : length s ≡ 17
-  pub ends : length e ≡ 16
-  pub low : (g : ℕ) → g < 16 → getD s g 0 ≤ getD e g 0
-  pub front : (g : ℕ) → g < 16 → getD e g 0 ≤ getD s (g + 1) 0
-  pub apart : (g h : ℕ) → g < h → h < 16 → getD s (g + 1) 0 ≤ getD s h 0
-  pub inside : (g : ℕ) → g < 16 → getD s (g + 1) 0 ≤ n
-
--- the fronts of e are parts of those of f
-pub record Within (e f : List ℕ) : Type 0 where
-  pub under : (g : ℕ) → g < 16 → getD e g 0 ≤ getD f g 0
-
--- from p to q: in each front the same elements in another order, and in each group all else as before
-pub record Kept (s e p q : List ℕ) : Type 0 where
-  pub long : length q ≡ length p
-  pub rest : (g i : ℕ) → g < 16 → getD e g 0 ≤ i → getD s g 0 ≤ i → i < getD s (g + 1) 0 → getD q i 0 ≡ getD p i 0
-  pub there : (g i : ℕ) → g < 16 → getD s g 0 ≤ i → i < getD e g 0 → Has q (getD s g 0) (getD e g 0) (getD p i 0)
-  pub back : (g i : ℕ) → g < 16 → getD s g 0 ≤ i → i < getD e g 0 → Has p (getD s g 0) (getD e g 0) (getD q i 0)
+use Rattle.meaning.proofs.Tests.{lt-or-le}
+use Rattle.listing.specs.Inner.{Stirred, Laid, Within, Kept, Ruled}
+use Rattle.listing.proofs.laws.Parting.{eq-or}
 
 pub kept-same : (s e p : List ℕ) → Kept s e p p
 kept-same s e p = record {
@@ -99,27 +79,6 @@ kept-stirred s e p q n g h l a = record {
     ]
 
 -- ---- what the entries say
-
--- the rule at place p is one that d goes by
-pub record Entry (b : List ℕ) (d : Row → Bool) (p : ℕ) : Type 0 where
-  pub stands : Stands b p
-  pub tells : (z : Row) → dead (ruleAt b p ∷ []) z ≡ true → d z ≡ true
-
--- an entry of group g's front that makes z dead
-pub record Hit (b : List ℕ) (p s e : List ℕ) (g : ℕ) (z : Row) : Type 0 where
-  pub at : ℕ
-  pub above : getD s g 0 ≤ at
-  pub under : at < getD e g 0
-  pub kills : dead (ruleAt b (getD p at 0) ∷ []) z ≡ true
-
--- below x the fronts and the k rules from place `at` on say what d says
-pub record Ruled (b : List ℕ) (d : Row → Bool) (x : Row) (p s e : List ℕ) (at k : ℕ) : Type 0 where
-  pub few : k ≤ 24576
-  pub stand : AllStand b at k
-  pub tells : (y : Row) → dead (rulesAt b at k) (x ++ y) ≡ true → d (x ++ y) ≡ true
-  pub entries : (g i : ℕ) → g < 16 → getD s g 0 ≤ i → i < getD e g 0 → Entry b d (getD p i 0)
-  pub covers : (y : Row) (v : ℕ) → length (x ++ y) < 16 → d (x ++ y) ≡ false → d ((x ++ y) ++ (v ∷ [])) ≡ true
-      → Hit b p s e (length (x ++ y)) ((x ++ y) ++ (v ∷ [])) ⊎ (dead (rulesAt b at k) ((x ++ y) ++ (v ∷ [])) ≡ true)
 
 module _ (b : List ℕ) (d : Row → Bool) (x : Row) (s e : List ℕ) (at k : ℕ) where
   pub ruled-kept : (p q : List ℕ) → Kept s e p q → Ruled b d x p s e at k → Ruled b d x q s e at k

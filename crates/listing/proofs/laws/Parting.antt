@@ -9,6 +9,7 @@ use lib.ListN.{length, length-set, getD, set}
 use lib.Seq.{getD-set-same, getD-set-other}
 use borrow.Author.Tests.{not-true, not-false}
 use Rattle.meaning.proofs.Order.{compare}
+use Rattle.listing.specs.Inner.{Has, Stirred, swapOf, settleList, settleCount, Parted}
 
 pub eq-or : (a b : ℕ) → (a ≡ b) ⊎ (a ≡ b → ⊥)
 eq-or a b = elim (compare a b) [
@@ -21,21 +22,6 @@ eq-or a b = elim (compare a b) [
 
 ne-lt : (a b : ℕ) → (a ≡ b → ⊥) → a < b + 1 → a < b
 ne-lt a b n h = omega arith
-
--- a place from lo up to below hi at which q has the element e
-pub record Has (q : List ℕ) (lo hi e : ℕ) : Type 0 where
-  pub at : ℕ
-  pub above : lo ≤ at
-  pub under : at < hi
-  pub is : getD q at 0 ≡ e
-
--- from p to q: within lo and hi the same elements in another order, outside them all as before
-pub record Stirred (p q : List ℕ) (lo hi : ℕ) : Type 0 where
-  pub long : length q ≡ length p
-  pub low : (i : ℕ) → i < lo → getD q i 0 ≡ getD p i 0
-  pub high : (i : ℕ) → hi ≤ i → getD q i 0 ≡ getD p i 0
-  pub there : (i : ℕ) → lo ≤ i → i < hi → Has q lo hi (getD p i 0)
-  pub back : (i : ℕ) → lo ≤ i → i < hi → Has p lo hi (getD q i 0)
 
 pub stirred-same : (p : List ℕ) (lo hi : ℕ) → Stirred p p lo hi
 stirred-same p lo hi = record {
@@ -62,9 +48,6 @@ stirred-on p q r lo hi s t = record {
 }
 
 -- ---- two elements change places
-
-abbrev pub swapOf : List ℕ → ℕ → ℕ → List ℕ
-swapOf p i k = set (set p i (getD p k 0)) k (getD p i 0)
 
 module _ (p : List ℕ) (i k : ℕ) (hi : i < length p) (hk : k < length p) where
   swap-k : getD (swapOf p i k) k 0 ≡ getD p i 0
@@ -112,15 +95,6 @@ module _ (p : List ℕ) (i k : ℕ) (hi : i < length p) (hk : k < length p) wher
 
 -- ---- the loop: of the elements before i those that are not wanted stand from k on
 
--- what a turn makes of the list and of k: a wanted element goes to place k
-unfoldable pub settleList : Bool → List ℕ → ℕ → ℕ → List ℕ
-settleList true p i k = swapOf p i k
-settleList false p i k = p
-
-unfoldable pub settleCount : Bool → ℕ → ℕ
-settleCount true k = k + 1
-settleCount false k = k
-
 pub settle-no : (b : Bool) (p : List ℕ) (i k : ℕ) → not b ≡ true → (p ≡ settleList b p i k) × (k ≡ settleCount b k)
 unfolding settleList settleCount
 settle-no b p i k h = rw (not-true b h) (refl, refl)
@@ -138,19 +112,11 @@ module _ (wanted : ℕ → Bool) (p : List ℕ) (lo hi : ℕ) where
     pub chosen : (j : ℕ) → lo ≤ j → j < k → wanted (getD q j 0) ≡ true
     pub left : (j : ℕ) → k ≤ j → j < i → wanted (getD q j 0) ≡ false
 
-  -- what it comes to: from k on none is wanted
-  pub record Parted (q : List ℕ) (k : ℕ) : Type 0 where
-    pub from : lo ≤ k
-    pub upto : k ≤ hi
-    pub stirred : Stirred p q lo hi
-    pub chosen : (j : ℕ) → lo ≤ j → j < k → wanted (getD q j 0) ≡ true
-    pub left : (j : ℕ) → k ≤ j → j < hi → wanted (getD q j 0) ≡ false
-
   pub parting-start : lo ≤ hi → Parting p lo lo
   parting-start h = record { from = omega arith; behind = omega arith; upto = h; stirred = stirred-same p lo hi; chosen = λ j a b. absurd (omega arith); left = λ j a b. absurd (omega arith) }
 
   module _ (q : List ℕ) (i k : ℕ) (y : Parting q i k) where
-    pub parting-end : hi ≤ i → Parted q k
+    pub parting-end : hi ≤ i → Parted wanted p lo hi q k
     parting-end h = record { from = y .from; upto = omega (arith, y .behind, y .upto); stirred = y .stirred; chosen = y .chosen; left = λ j a b. y .left j a (omega arith) }
 
     pub parting-inside : hi ≤ length p → i < hi → (i < length q) × (k < length q)

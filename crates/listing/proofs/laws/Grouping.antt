@@ -10,28 +10,23 @@ use lib.Dec.{T, eqb}
 use lib.ListN.{length, length-append, length-set, getD, set, replicate}
 use lib.Seq.{getD-set-same, getD-set-other}
 use borrow.Author.Tests.{lt-ltb, eq-eqb, eqb-true, not-false}
-use Rattle.meaning.proofs.Tests.{case, is, isnt, lt-or-le, is-yes, is-no}
 use Rattle.meaning.specs.Rows.{Row}
 use Rattle.meaning.specs.Rules.{Rule, met}
 use Rattle.meaning.specs.Bytes.{literalsAt, ruleAt, endAt, rulesAt, placeAt}
 use Rattle.meaning.specs.Listing.{dead, decided}
+use Rattle.meaning.proofs.Tests.{case, is, isnt, lt-or-le, is-yes, is-no}
 use Rattle.meaning.proofs.Dead.{dead-append, met-prefix}
 use Rattle.listing.specs.declared.cursor.Cursor.{Cursor}
 use Rattle.listing.specs.declared.groups.Groups.{Groups}
 use Rattle.listing.specs.Cursors.{cursorOf}
-use Rattle.listing.specs.Prefixes.{Plain, plain-cursor}
-use Rattle.listing.specs.Standing.{Stands, AllStand, place-next, rules-split, stand-at, stand-part}
-use Rattle.listing.specs.Literals.{last-decides, last-open}
-use Rattle.listing.specs.Judging.{dead-one}
-use Rattle.listing.specs.Parting.{eq-or, Has, Parted}
-use Rattle.listing.specs.Ruled.{Laid, Hit, Ruled}
-use Rattle.listing.specs.Sifting.{lastOf, wantedOf, Siftable}
+use Rattle.listing.specs.Inner.{Plain, Stands, AllStand, Has, Parted, Hit, Ruled, lastOf, wantedOf, Siftable, Filled, OneOf, Grouped}
+use Rattle.listing.proofs.laws.Prefixes.{plain-cursor}
+use Rattle.listing.proofs.laws.Standing.{place-next, rules-split, stand-at, stand-part}
+use Rattle.listing.proofs.laws.Literals.{last-decides, last-open}
+use Rattle.listing.proofs.laws.Judging.{dead-one}
+use Rattle.listing.proofs.laws.Parting.{eq-or}
 
 -- ---- the places, in the book's order
-
-pub record Filled (b : List ℕ) (n : ℕ) (p : List ℕ) (r : ℕ) : Type 0 where
-  pub next : r ≡ placeAt b 7 n
-  pub done : (j : ℕ) → j < n → getD p j 0 ≡ placeAt b 7 j
 
 pub record Filling (b : List ℕ) (n : ℕ) (p₀ p : List ℕ) (at i : ℕ) : Type 0 where
   pub inside : i ≤ n
@@ -64,17 +59,6 @@ module _ (b : List ℕ) (n : ℕ) (p₀ p : List ℕ) (at i : ℕ) (y : Filling 
   filling-end h = let e : i ≡ n = omega (arith, y .inside) in record { next = y .place ∙ ap (placeAt b 7) e; done = λ j k. y .done j (omega arith) }
 
 -- ---- the groups
-
--- a rule of the first n stands at place e
-pub record OneOf (b : List ℕ) (n e : ℕ) : Type 0 where
-  pub at : ℕ
-  pub under : at < n
-  pub is : e ≡ placeAt b 7 at
-
-pub record Grouped (b : List ℕ) (n : ℕ) (p : List ℕ) (r : Groups) : Type 0 where
-  pub laid : Laid (r .starts) (r .ends) (length p)
-  pub entries : (g i : ℕ) → g < 16 → getD (r .starts) g 0 ≤ i → i < getD (r .ends) g 0 → OneOf b n (getD p i 0)
-  pub found : (k : ℕ) → k < n → (g : ℕ) → lastOf b (placeAt b 7 k) ≡ g → g < 16 → Has p (getD (r .starts) g 0) (getD (r .ends) g 0) (placeAt b 7 k)
 
 pub record Sorting (b : List ℕ) (n : ℕ) (p s e : List ℕ) (m from g : ℕ) : Type 0 where
   pub starts : length s ≡ 17

@@ -4,31 +4,23 @@ use native.Mathlib.Nat.{mul-le-mul-left, mul-le-mul-right}
 use native.Mathlib.Numerals.{add-one}
 use native.Mathlib.Omega.{arith}
 use mathlib.Core.Path.{_≡_, refl, ap, _∙_}
-use mathlib.Core.Bool.{Bool, true, false, cond}
+use mathlib.Core.Bool.{Bool, true, false}
 use mathlib.Core.Logic.{_⊎_, inl, inr}
-use mathlib.Core.List.{List, [], _∷_, _++_}
-use lib.Dec.{eqb}
+use mathlib.Core.List.{List, [], _∷_}
 use lib.ListN.{length, getD, set}
 use lib.Seq.{set-split}
 use borrow.Author.Tests.{eq-eqb, ne-eqb}
 use Rattle.meaning.specs.Rows.{Row, Sizes}
-use Rattle.books.proofs.laws.Put.{putAt-putAt, putAt-length}
 use Rattle.books.specs.Inner.{putAt}
+use Rattle.books.proofs.laws.Put.{putAt-putAt, putAt-length}
 use Rattle.listing.specs.declared.cursor.Cursor.{Cursor}
 use Rattle.listing.specs.declared.walk.Walk.{Walk}
 use Rattle.listing.specs.Cursors.{prefixOf}
-use Rattle.listing.specs.Prefixes.{Plain, plain-length, pushOf, push-prefix}
-use Rattle.listing.specs.Values.{forbidden}
-use Rattle.listing.specs.Steps.{S, walkOf, moveOf, Ready}
-use Rattle.listing.specs.Turns.{Going, going-start, going-rows, going-steps, going-end, wholeOf, Allows, leaf-on}
+use Rattle.listing.specs.Inner.{Plain, pushOf, forbidden, S, walkOf, moveOf, Ready, Going, wholeOf, Allows, leafRows, leafRoom, leafOf}
+use Rattle.listing.proofs.laws.Prefixes.{plain-length, push-prefix}
+use Rattle.listing.proofs.laws.Turns.{going-start, going-rows, going-steps, going-end, leaf-on}
 
 -- ---- one leaf: a row, if it is not dead
-
-unfoldable pub leafRows : Bool → ℕ → ℕ
-leafRows b rows = cond b rows (rows + 1)
-
-unfoldable pub leafRoom : Bool → List ℕ → ℕ → Row → ℕ → List ℕ
-leafRoom b o at x v = cond b o (putAt o at (x ++ (v ∷ [])))
 
 set-put : (o : List ℕ) (k v : ℕ) → k < length o → set o k v ≡ putAt o k (v ∷ [])
 unfolding putAt
@@ -48,9 +40,6 @@ leaf-live b o at c v rows p h e o₁ q =
     rw e (refl, set-put o₁ (at + c .len) v (omega arith) ∙ rw (q, k) (putAt-putAt o at (prefixOf c) (v ∷ []) (omega arith)))
 
 -- ---- the loop
-
-abbrev pub leafOf : Walk → Cursor → ℕ → ℕ → Bool → ℕ → ℕ → Walk
-leafOf w cur v u f rows steps = cond (eqb u v) w (walkOf (pushOf cur (u - 1)) f rows steps)
 
 pub leafed-none : (cur : Cursor) (w : Walk) (v u : ℕ) (f : Bool) (rows steps : ℕ) → u ≡ v → w ≡ leafOf w cur v u f rows steps
 leafed-none cur w v u f rows steps e = rw (eq-eqb u v e)

@@ -1,5 +1,5 @@
 -- Holding: what a walk keeps true of the entries while it goes down and comes back.
-use Prim.Native.Nat.{ℕ, _+_}
+use Prim.Native.Nat.{ℕ}
 use native.Mathlib.Omega.{arith}
 use mathlib.Core.Path.{_≡_, refl, sym, _∙_}
 use mathlib.Core.Bool.{Bool}
@@ -7,9 +7,8 @@ use mathlib.Core.List.{List, [], _∷_, _++_}
 use lib.ListN.{length}
 use Rattle.meaning.specs.Rows.{Row}
 use Rattle.listing.specs.declared.scan.Scanned.{Scanned}
-use Rattle.listing.specs.Ruled.{Laid, Kept, kept-same, kept-on, kept-wider, ruled-kept}
-use Rattle.listing.specs.Looking.{Open, Looks}
-use Rattle.listing.specs.Sifting.{Narrowable, Narrowed}
+use Rattle.listing.specs.Inner.{Laid, Kept, Looks, Narrowable, Narrowed, LooksIf}
+use Rattle.listing.proofs.laws.Ruled.{kept-same, kept-on, kept-wider, ruled-kept}
 
 laid-same : (s e : List ℕ) (n m : ℕ) → m ≡ n → Laid s e n → Laid s e m
 laid-same s e n m h l = record { starts = l .starts; ends = l .ends; low = l .low; front = l .front; apart = l .apart; inside = λ g k. omega (arith, l .inside g k) }
@@ -48,12 +47,6 @@ held-on b s e p₀ n₀ p n y x q f w r k m h =
     record { kept = kept-on s e p₀ p r (y .kept) t; able = able-kept b p s e r n m (y .able) t h; long = h ∙ y .long }
 
 -- ---- a look that is made only where a level is gone into
-
-pub record OpenIf (b : List ℕ) (d : Row → Bool) (x : Row) (p s e : List ℕ) (at k n levels : ℕ) : Type 0 where
-  pub opens : (levels ≡ 0 → ⊥) → Open b d x p s e at k n
-
-pub record LooksIf (b : List ℕ) (d : Row → Bool) (x : Row) (p s e : List ℕ) (levels : ℕ) (r : Scanned) : Type 0 where
-  pub looks : (levels ≡ 0 → ⊥) → Looks b d x p s e r
 
 pub looks-none : (b : List ℕ) (d : Row → Bool) (x : Row) (p s e : List ℕ) (levels : ℕ) (r : Scanned) → levels ≡ 0 → LooksIf b d x p s e levels r
 looks-none b d x p s e levels r h = record { looks = λ z. absurd (z h) }

@@ -12,10 +12,10 @@ use Rattle.meaning.proofs.Tests.{yes-of, is-yes}
 use Rattle.meaning.specs.Rows.{Row, Sizes, alike, begins}
 use Rattle.meaning.proofs.Alike.{alike-lent}
 use Rattle.listing.specs.declared.cursor.Cursor.{Cursor}
-use Rattle.listing.specs.Sizes.{Limited, inLimits, limits-known}
-use Rattle.listing.specs.Cursors.{prefixOf, cursorOf, cursorOk, nextValue, oneShorter, moveTo, downIn, alongIn, upIn, downOf, alongOf, upOf}
-use Rattle.listing.specs.CursorTests.{Tested}
-use Rattle.listing.specs.Prefixes.{plain-length, Good, good-of, begins-longer, begins-shorter}
+use Rattle.listing.proofs.laws.Sizes.{limits-known}
+use Rattle.listing.specs.Inner.{Limited, Tested, Good}
+use Rattle.listing.specs.Cursors.{prefixOf, cursorOf, cursorOk, nextValue, oneShorter, moveTo, downIn, alongIn, upIn, downOf, alongOf, upOf, inLimits}
+use Rattle.listing.proofs.laws.Prefixes.{plain-length, good-of, begins-longer, begins-shorter}
 
 -- ---- a prefix that ends in v
 

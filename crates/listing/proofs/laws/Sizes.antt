@@ -3,27 +3,12 @@ use Prim.Native.Nat.{ℕ, _≤_, _<_}
 use native.Mathlib.Omega.{arith}
 use mathlib.Core.Path.{_≡_, refl, sym, _∙_}
 use mathlib.Core.Bool.{Bool, true, false, not, _&&_, false≢true}
-use mathlib.Core.List.{List}
 use lib.Dec.{leb}
-use lib.ListN.{length, getD, take, replicate}
+use lib.ListN.{length, take, replicate}
 use borrow.Author.Tests.{le-leb, lt-leb, leb-true, not-false}
 use Rattle.meaning.proofs.Alike.{alike-length, alike-at, alike-lent, alike-cut}
-
--- at most sixteen settings, each of 1 to 64 values
-pub record Limited (ns : List ℕ) : Type 0 where
-  pub short : length ns ≤ 16
-  pub some : (k : ℕ) → k < length ns → 1 ≤ getD ns k 0
-  pub few : (k : ℕ) → k < length ns → getD ns k 0 ≤ 64
-
--- n from 1 to 64 and l from 1 to 16
-unfoldable pub inLimits : ℕ → ℕ → Bool
-inLimits n l = (leb 1 n && leb n 64) && (leb 1 l && leb l 16)
-
-pub record Limits (n l : ℕ) : Type 0 where
-  pub some : 1 ≤ n
-  pub few : n ≤ 64
-  pub settings : 1 ≤ l
-  pub short : l ≤ 16
+use Rattle.listing.specs.Inner.{Limited, Limits}
+use Rattle.listing.specs.Cursors.{inLimits}
 
 -- ---- the test of n and l, by its ways out
 

@@ -11,19 +11,16 @@ use borrow.Author.Tests.{eqb-true}
 use Rattle.meaning.specs.Lists.{keep, consIf, lastOr}
 use Rattle.meaning.specs.Rows.{Row, Sizes}
 use Rattle.meaning.specs.Listing.{shown, less, front}
+use Rattle.books.specs.Inner.{putAt}
 use Rattle.meaning.proofs.Paged.{front-rows}
 use Rattle.books.proofs.laws.Put.{putAt-length, putAt-nothing, putAt-putAt}
-use Rattle.books.specs.Inner.{putAt}
 use Rattle.listing.specs.declared.cursor.Cursor.{Cursor}
 use Rattle.listing.specs.declared.walk.Walk.{Walk}
 use Rattle.listing.specs.Cursors.{prefixOf, cursorOf}
-use Rattle.listing.specs.Prefixes.{Plain, prefix-cursor, cursor-len}
-use Rattle.listing.specs.Steps.{S, walkOf, moveOf, visitOf, runs, runs-nil, runs-cons, runs-shut, shut-rows, shut-steps, open-both}
-
--- rows one after another, as they stand in the room
-abbrev pub flat : List Row → List ℕ
-flat [] = []
-flat (x ∷ xs) = x ++ flat xs
+use Rattle.listing.specs.Inner.{Plain, S, walkOf, moveOf, visitOf, runs}
+use Rattle.listing.specs.Pages.{flat}
+use Rattle.listing.proofs.laws.Prefixes.{prefix-cursor, cursor-len}
+use Rattle.listing.proofs.laws.Steps.{runs-nil, runs-cons, runs-shut, shut-rows, shut-steps, open-both}
 
 pub flat-append : (xs ys : List Row) → flat (xs ++ ys) ≡ flat xs ++ flat ys
 flat-append [] ys = refl

@@ -10,74 +10,55 @@ use lib.Dec.{T}
 use lib.ListN.{length, getD}
 use lib.Seq.{append-snoc}
 use Rattle.meaning.specs.Lists.{each}
-use Rattle.meaning.proofs.ListLaws.{map-each}
 use Rattle.meaning.specs.Rows.{Row, Sizes, begins}
 use Rattle.meaning.specs.Listing.{below, after}
+use Rattle.meaning.proofs.ListLaws.{map-each}
 use Rattle.meaning.proofs.Tree.{tree, limb, below-tree}
 use Rattle.meaning.proofs.After.{beyond, after-beyond}
-
--- k of the sizes, from setting i on
-abbrev pub part : Sizes → ℕ → ℕ → Sizes
-part ns i zero = []
-part ns i (suc k) = getD ns i 0 ∷ part ns (i + 1) k
+use Rattle.listing.specs.Inner.{part, branchOf, fromOf, pastOf}
 
 module _ (d : Row → Bool) where
-  -- the prefix p with v, and what is visited below it
-  abbrev pub branchOf : Sizes → Row → ℕ → List Row
-  branchOf ns p v = (p ++ (v ∷ [])) ∷ below d ns (p ++ (v ∷ []))
-
-  -- below a live prefix p, from the value v on
-  abbrev pub fromOf : Sizes → Row → ℕ → List Row
-  fromOf [] p v = []
-  fromOf (n ∷ ns) p v = each (branchOf ns p) v (n - v)
-
-  -- below p, after p ++ c
-  abbrev pub pastOf : Sizes → Row → Row → List Row
-  pastOf ns p [] = below d ns p
-  pastOf [] p (v ∷ c) = []
-  pastOf (n ∷ ns) p (v ∷ c) = let r = pastOf ns (p ++ (v ∷ [])) c ++ fromOf (n ∷ ns) p (suc v) in cond (d p) [] r
-
   -- no level is gone into below a dead prefix
   abbrev pub stopAt : Bool → Sizes → Sizes
   stopAt true ns = []
   stopAt false ns = ns
 
-  pub below-from : (ns : Sizes) (p : Row) → below d ns p ≡ fromOf (stopAt (d p) ns) p 0
+  pub below-from : (ns : Sizes) (p : Row) → below d ns p ≡ fromOf d (stopAt (d p) ns) p 0
   below-from [] p = go (d p)
     where
-      go : (b : Bool) → [] ≡ fromOf (stopAt b []) p 0
+      go : (b : Bool) → [] ≡ fromOf d (stopAt b []) p 0
       go true = refl
       go false = refl
   below-from (n ∷ ns) p = go (d p)
     where
-      go : (b : Bool) → cond b [] (each (branchOf ns p) 0 n) ≡ fromOf (stopAt b (n ∷ ns)) p 0
+      go : (b : Bool) → cond b [] (each (branchOf d ns p) 0 n) ≡ fromOf d (stopAt b (n ∷ ns)) p 0
       go true = refl
       go false = rw (sub-zero n)
 
   -- ---- the visited prefixes after the cursor
 
-  branch-limb : (ns : Sizes) (p : Row) (v : ℕ) → branchOf ns p v ≡ map (λ s. p ++ s) (limb ns (λ s. d (p ++ s)) v)
+  branch-limb : (ns : Sizes) (p : Row) (v : ℕ) → branchOf d ns p v ≡ map (λ s. p ++ s) (limb ns (λ s. d (p ++ s)) v)
   branch-limb ns p v =
       ap (λ (l : List Row). (p ++ (v ∷ [])) ∷ l)
       ((simp append-snoc at (below-tree d ns (p ++ (v ∷ [])))) ∙ sym (map-map (λ s. p ++ s) (λ s. v ∷ s) (tree ns (λ s. d (p ++ (v ∷ s))))))
 
-  past-beyond : (ns : Sizes) (p c : Row) → pastOf ns p c ≡ map (λ s. p ++ s) (beyond ns (λ s. d (p ++ s)) c)
+  past-beyond : (ns : Sizes) (p c : Row) → pastOf d ns p c ≡ map (λ s. p ++ s) (beyond ns (λ s. d (p ++ s)) c)
   past-beyond ns p [] = below-tree d ns p
   past-beyond [] p (v ∷ c) = refl
   past-beyond (n ∷ ns) p (v ∷ c) = rw (append-nil p) (go (d p) (simp append-snoc at (past-beyond ns (p ++ (v ∷ [])) c)))
     where
-      go : (b : Bool) → pastOf ns (p ++ (v ∷ [])) c ≡ map (λ s. p ++ (v ∷ s)) (beyond ns (λ s. d (p ++ (v ∷ s))) c)
-          → cond b [] (pastOf ns (p ++ (v ∷ [])) c ++ each (branchOf ns p) (suc v) (n - suc v))
+      go : (b : Bool) → pastOf d ns (p ++ (v ∷ [])) c ≡ map (λ s. p ++ (v ∷ s)) (beyond ns (λ s. d (p ++ (v ∷ s))) c)
+          → cond b [] (pastOf d ns (p ++ (v ∷ [])) c ++ each (branchOf d ns p) (suc v) (n - suc v))
           ≡ map (λ s. p ++ s) (cond b [] (map (λ s. v ∷ s) (beyond ns (λ s. d (p ++ (v ∷ s))) c) ++ each (limb ns (λ s. d (p ++ s))) (suc v) (n - suc v)))
       go true ih = refl
       go false ih =
-          ap (λ (l : List Row). l ++ each (branchOf ns p) (suc v) (n - suc v))
+          ap (λ (l : List Row). l ++ each (branchOf d ns p) (suc v) (n - suc v))
           (ih ∙ sym (map-map (λ s. p ++ s) (λ s. v ∷ s) (beyond ns (λ s. d (p ++ (v ∷ s))) c)))
           ∙ ap (λ (g : ℕ → List Row). map (λ s. p ++ s) (map (λ s. v ∷ s) (beyond ns (λ s. d (p ++ (v ∷ s))) c)) ++ each g (suc v) (n - suc v)) (fun-ext (branch-limb ns p))
           ∙ ap (λ (l : List Row). map (λ s. p ++ s) (map (λ s. v ∷ s) (beyond ns (λ s. d (p ++ (v ∷ s))) c)) ++ l) (sym (map-each (λ s. p ++ s) (limb ns (λ s. d (p ++ s))) (suc v) (n - suc v)))
           ∙ sym (map-append (λ s. p ++ s) (map (λ s. v ∷ s) (beyond ns (λ s. d (p ++ (v ∷ s))) c)) (each (limb ns (λ s. d (p ++ s))) (suc v) (n - suc v)))
 
-  pub past-after : (ns : Sizes) (c : Row) → T (begins ns c) → pastOf ns [] c ≡ after ns d c
+  pub past-after : (ns : Sizes) (c : Row) → T (begins ns c) → pastOf d ns [] c ≡ after ns d c
   past-after ns c w = past-beyond ns [] c ∙ map-id (beyond ns d c) ∙ sym (after-beyond ns d c w)
 
 -- ---- parts of the sizes

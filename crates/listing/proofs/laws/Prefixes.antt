@@ -5,18 +5,15 @@ use mathlib.Core.Path.{_≡_, refl, sym, ap, _∙_}
 use mathlib.Core.Bool.{Bool, true, false, _&&_}
 use mathlib.Core.List.{List, [], _∷_, _++_}
 use lib.Dec.{T, leb, ltb, eqb, leb→le, eqb→eq}
-use lib.ListN.{length, length-append, length-drop, getD, drop, set, replicate, length-replicate, take-append-drop}
+use lib.ListN.{length, length-append, length-drop, getD, drop, replicate, length-replicate, take-append-drop}
 use lib.Seq.{set-append-seam, take-append-seam, append-snoc, length-take-le}
 use borrow.Author.Tests.{le-ltb}
-use Rattle.meaning.proofs.Tests.{and-l, and-r, yes-of, is-yes}
 use Rattle.meaning.specs.Rows.{Row, Sizes, begins}
+use Rattle.meaning.proofs.Tests.{and-l, and-r, yes-of, is-yes}
 use Rattle.meaning.proofs.Visited.{begins-nil, begins-none, begins-cons}
 use Rattle.listing.specs.declared.cursor.Cursor.{Cursor}
 use Rattle.listing.specs.Cursors.{prefixOf, cursorOf, allZero, fits, clean, cursorOk}
-
-pub record Plain (c : Cursor) : Type 0 where
-  pub short : c .len ≤ 16
-  pub same : c ≡ cursorOf (prefixOf c)
+use Rattle.listing.specs.Inner.{Plain, pushOf, Good}
 
 -- ---- the cursor of a prefix
 
@@ -46,9 +43,6 @@ plain-values c p =
 
 -- ---- one value longer
 
-abbrev pub pushOf : Cursor → ℕ → Cursor
-pushOf c v = record { len = c .len + 1; values = set (c .values) (c .len) v }
-
 push-cursor : (p : Row) (v : ℕ) → length p < 16 → pushOf (cursorOf p) v ≡ cursorOf (p ++ (v ∷ []))
 unfolding cursorOf
 push-cursor p v h =
@@ -67,11 +61,6 @@ module _ (c : Cursor) (v : ℕ) (p : Plain c) (h : c .len < 16) where
   push-plain = rw push-same (plain-cursor (prefixOf c ++ (v ∷ [])) (omega (arith, length-append (prefixOf c) (v ∷ []), plain-length c p)))
 
 -- ---- a good cursor
-
-pub record Good (ns : Sizes) (c : Cursor) : Type 0 where
-  pub plain : Plain c
-  pub deep : c .len ≤ length ns
-  pub fits : T (begins ns (prefixOf c))
 
 zeros : (xs : List ℕ) → T (allZero xs) → xs ≡ replicate (length xs) 0
 unfolding allZero

@@ -16,7 +16,7 @@ use Rattle.meaning.specs.Listing.{decided}
 use Rattle.meaning.proofs.Dead.{holds-prefix}
 use Rattle.books.proofs.laws.Holds.{literal-setting-is}
 use Rattle.listing.specs.declared.scan.Passed.the-variants.{Holds, Left}
-use Rattle.listing.specs.Early.{earlyOf}
+use Rattle.listing.specs.Inner.{earlyOf}
 
 pub key-low : (c : Literal) → 2 * setting c ≤ key c
 key-low (atMost i d) = omega arith

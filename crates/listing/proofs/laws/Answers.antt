@@ -1,6 +1,6 @@
 -- Answers: a page's outcome in numbers: document 01's number for each case, and the values that it gives. 0 is no refusal.
 use Prim.Native.Nat.{ℕ}
-use mathlib.Core.Bool.{Bool, false, cond}
+use mathlib.Core.Bool.{cond}
 use mathlib.Core.List.{List, [], _∷_}
 use Rattle.books.specs.Faults.{numberOf, valuesOf}
 use Rattle.listing.specs.declared.paging.Outcome.{Outcome}
@@ -20,26 +20,3 @@ outcomeValues (Faulty f) = valuesOf f
 outcomeValues BadCursor = []
 outcomeValues NoRoom = []
 outcomeValues BadBudget = []
-
--- ---- what an outcome says of a page
-
-abbrev pub rowsIn : Outcome → ℕ
-rowsIn (Listed rows steps finished) = rows
-rowsIn (Faulty f) = 0
-rowsIn BadCursor = 0
-rowsIn NoRoom = 0
-rowsIn BadBudget = 0
-
-abbrev pub stepsIn : Outcome → ℕ
-stepsIn (Listed rows steps finished) = steps
-stepsIn (Faulty f) = 0
-stepsIn BadCursor = 0
-stepsIn NoRoom = 0
-stepsIn BadBudget = 0
-
-abbrev pub finishedIn : Outcome → Bool
-finishedIn (Listed rows steps finished) = finished
-finishedIn (Faulty f) = false
-finishedIn BadCursor = false
-finishedIn NoRoom = false
-finishedIn BadBudget = false

@@ -4,25 +4,13 @@ use native.Mathlib.Nat.{zero-add, suc-add}
 use native.Mathlib.Omega.{arith}
 use mathlib.Core.Path.{_≡_, ap, _∙_}
 use mathlib.Core.List.{List, [], _∷_, _++_}
-use lib.ListN.{length}
 use Rattle.meaning.specs.Lists.{All}
 use Rattle.meaning.specs.Rows.{Sizes}
-use Rattle.meaning.specs.Rules.{Rule, Literal, atMost, atLeast, bound, topOf, Fits, AllFit, Ordered}
+use Rattle.meaning.specs.Rules.{Rule, Literal, atMost, atLeast, bound, topOf, Fits, AllFit}
 use Rattle.meaning.specs.Bytes.{ruleAt, endAt, rulesAt, placeAt}
-use Rattle.books.proofs.laws.Holds.{holds-good, holds-inside, holds-next}
 use Rattle.books.specs.Inner.{Holds}
-use Rattle.listing.specs.Sizes.{Limited}
-
--- what the scan asks of the rule at place `at`: it ends inside the bytes, its literals stand in order, and each bound is below 64
-pub record Stands (b : List ℕ) (at : ℕ) : Type 0 where
-  pub inside : endAt b at ≤ length b
-  pub ordered : Ordered 0 (ruleAt b at)
-  pub small : All (λ c. bound c < 64) (ruleAt b at)
-
--- of k rules from place `at` on
-abbrev pub AllStand : List ℕ → ℕ → ℕ → Type 0
-AllStand b at zero = Unit {0}
-AllStand b at (suc k) = Stands b at × AllStand b (endAt b at) k
+use Rattle.books.proofs.laws.Holds.{holds-good, holds-inside, holds-next}
+use Rattle.listing.specs.Inner.{Limited, Stands, AllStand}
 
 -- ---- the rules after i of them
 

@@ -12,15 +12,7 @@ use borrow.Author.Tests.{lt-ltb, le-ltb, eq-eqb, ne-eqb, le-leb, lt-leb, not-tru
 use Rattle.meaning.specs.Rows.{Sizes, begins}
 use Rattle.listing.specs.declared.cursor.Cursor.{Cursor}
 use Rattle.listing.specs.Cursors.{prefixOf, allZero, fits, clean, cursorOk}
-
--- the contracts: the answer, and that a cursor has sixteen values, which a good one's prefix rests on
-pub record Cleaned (c : Cursor) (r : Bool) : Type 0 where
-  pub is : r ≡ clean c
-  pub sixteen : length (c .values) ≡ 16
-
-pub record Tested (ns : Sizes) (c : Cursor) (r : Bool) : Type 0 where
-  pub is : r ≡ cursorOk ns c
-  pub sixteen : r ≡ true → length (c .values) ≡ 16
+use Rattle.listing.specs.Inner.{Cleaned, Tested}
 
 -- ---- past the length: what is left to test gives the whole
 

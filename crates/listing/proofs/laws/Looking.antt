@@ -7,29 +7,24 @@ use mathlib.Core.Logic.{_⊎_, inl, inr}
 use mathlib.Core.List.{List, [], _∷_, _++_, append-nil, append-assoc}
 use lib.ListN.{length, getD}
 use lib.Seq.{append-snoc, getD-take}
-use Rattle.meaning.proofs.Tests.{case, is, isnt, lt-or-le}
 use Rattle.meaning.specs.Rows.{Row, at}
 use Rattle.meaning.specs.Rules.{holds, met}
 use Rattle.meaning.specs.Bytes.{literalAt, literalsAt, ruleAt, rulesAt}
 use Rattle.meaning.specs.Listing.{dead, decided}
+use Rattle.meaning.proofs.Tests.{case, is, isnt, lt-or-le}
 use Rattle.meaning.proofs.Dead.{holds-prefix}
 use Rattle.books.proofs.laws.Holds.{literal-setting-is}
 use Rattle.listing.specs.declared.cursor.Cursor.{Cursor}
 use Rattle.listing.specs.declared.scan.Judged.{Judged}
 use Rattle.listing.specs.declared.scan.Scanned.{Scanned}
 use Rattle.listing.specs.Cursors.{prefixOf}
-use Rattle.listing.specs.Prefixes.{Plain, plain-length}
-use Rattle.listing.specs.Standing.{Stands}
-use Rattle.listing.specs.Early.{holdsBy, by-literal}
-use Rattle.listing.specs.Judging.{Judges, dead-one}
-use Rattle.listing.specs.Values.{forbidden, Forbids, every, every-open}
-use Rattle.listing.specs.Windows.{Window, Scans}
-use Rattle.listing.specs.Ruled.{Laid, Hit, Ruled}
+use Rattle.listing.specs.Inner.{Plain, Stands, holdsBy, Judges, forbidden, Forbids, Window, Scans, Hit, Ruled, Shows, Asks, Askable, Killer, Asked, Open, Looks}
+use Rattle.listing.proofs.laws.Prefixes.{plain-length}
+use Rattle.listing.proofs.laws.Early.{by-literal}
+use Rattle.listing.proofs.laws.Judging.{dead-one}
+use Rattle.listing.proofs.laws.Values.{every, every-open}
 
 -- ---- one literal that holds shows that the rule is met
-
-pub record Shows (b : List ℕ) (p : ℕ) (x : Row) (r : Bool) : Type 0 where
-  pub met-by : r ≡ true → (y : Row) → met (ruleAt b p) (x ++ y) ≡ true
 
 met-at : (b : List ℕ) (p k j : ℕ) (z : Row) → j < k → holds (literalAt b (p + 3 * j)) z ≡ true → met (literalsAt b p k) z ≡ true
 unfolding literalsAt met
@@ -64,9 +59,6 @@ module _ (b : List ℕ) (p : ℕ) (c : Cursor) (plain : Plain c) (hint count : �
 
 -- ---- one entry
 
-pub record Asks (b : List ℕ) (p : ℕ) (x : Row) (old new : ℕ) : Type 0 where
-  pub is : (v : ℕ) → v < 64 → forbidden new v ≡ dead (ruleAt b p ∷ []) (x ++ (v ∷ [])) || forbidden old v
-
 module _ (b : List ℕ) (p : ℕ) (x : Row) (old : ℕ) where
   pub asks-still : (r : Bool) → Shows b p x r → r ≡ true → Asks b p x old old
   asks-still r s t = record { is = λ v h. sym (ap (λ (u : Bool). u || forbidden old v) (never-dead b p (x ++ (v ∷ [])) (s .met-by t (v ∷ [])))) }
@@ -75,24 +67,6 @@ module _ (b : List ℕ) (p : ℕ) (x : Row) (old : ℕ) where
   asks-judged j g new f = record { is = λ v h. f .is v h ∙ ap (λ (u : Bool). u || forbidden old v) (sym (g .values v h)) }
 
 -- ---- the entries from lo up to below hi
-
-pub record Askable (b : List ℕ) (x : Row) (p : List ℕ) (lo hi n : ℕ) : Type 0 where
-  pub inside : hi ≤ length p
-  pub hints : hi ≤ n
-  pub low : lo ≤ hi
-  pub entries : (i : ℕ) → lo ≤ i → i < hi → Stands b (getD p i 0) × (dead (ruleAt b (getD p i 0) ∷ []) x ≡ false)
-
--- some entry makes z dead
-pub record Killer (b : List ℕ) (p : List ℕ) (lo hi : ℕ) (z : Row) : Type 0 where
-  pub at : ℕ
-  pub above : lo ≤ at
-  pub under : at < hi
-  pub kills : dead (ruleAt b (getD p at 0) ∷ []) z ≡ true
-
--- the values that they forbid, and no other, are missing from the set
-pub record Asked (b : List ℕ) (x : Row) (p : List ℕ) (lo hi set : ℕ) : Type 0 where
-  pub missing : (v : ℕ) → v < 64 → forbidden set v ≡ true → Killer b p lo hi (x ++ (v ∷ []))
-  pub all : (v : ℕ) → v < 64 → Killer b p lo hi (x ++ (v ∷ [])) → forbidden set v ≡ true
 
 pub record Asking (b : List ℕ) (x : Row) (p : List ℕ) (lo hi n m set i : ℕ) : Type 0 where
   pub above : lo ≤ i
@@ -148,18 +122,6 @@ module _ (b : List ℕ) (x : Row) (p : List ℕ) (lo hi n m set i : ℕ) (a : As
   asking-end h = let e : i ≡ hi = omega (arith, y .under) in (rw e at (y .done))
 
 -- ---- the whole look
-
--- below the live prefix x: what decides there, in its place
-pub record Open (b : List ℕ) (d : Row → Bool) (x : Row) (p s e : List ℕ) (at k n : ℕ) : Type 0 where
-  pub ruled : Ruled b d x p s e at k
-  pub live : d x ≡ false
-  pub laid : Laid s e (length p)
-  pub hints : length p ≤ n
-
--- the values that may follow x, and what decides below each of those prefixes
-pub record Looks (b : List ℕ) (d : Row → Bool) (x : Row) (p s e : List ℕ) (r : Scanned) : Type 0 where
-  pub values : (v : ℕ) → v < 64 → forbidden (r .allowed) v ≡ d (x ++ (v ∷ []))
-  pub next : (v : ℕ) → d (x ++ (v ∷ [])) ≡ false → Ruled b d (x ++ (v ∷ [])) p s e (r .at) (r .rules)
 
 module _ (b : List ℕ) (d : Row → Bool) (x : Row) (p s e : List ℕ) (at k n : ℕ) (o : Open b d x p s e at k n) where
   abbrev dr : Row → Bool

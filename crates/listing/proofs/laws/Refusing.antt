@@ -18,13 +18,12 @@ use Rattle.books.proofs.laws.Holds.{holds-start}
 use Rattle.books.proofs.laws.Accepted.{headed}
 use Rattle.listing.specs.declared.cursor.Cursor.{Cursor}
 use Rattle.listing.specs.declared.paging.Outcome.the-variants.{BadCursor, NoRoom, BadBudget, Faulty as Unread}
-use Rattle.listing.specs.Sizes.{Limits, lent-limited}
+use Rattle.listing.proofs.laws.Sizes.{lent-limited}
+use Rattle.listing.specs.Inner.{Limits, Tested, Standard, Starts, Numbers}
 use Rattle.listing.specs.Cursors.{cursorOk}
-use Rattle.listing.specs.CursorTests.{Tested}
-use Rattle.listing.specs.Prefixes.{good-of}
-use Rattle.listing.specs.Standing.{stand-all}
+use Rattle.listing.proofs.laws.Prefixes.{good-of}
+use Rattle.listing.proofs.laws.Standing.{stand-all}
 use Rattle.listing.specs.Pages.{P, refused, listedIn, pageIn, pageBy, pageOf}
-use Rattle.listing.specs.Paging.{Standard, Starts, Numbers}
 
 -- ---- the refusals
 

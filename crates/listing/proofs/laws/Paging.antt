@@ -10,48 +10,20 @@ use lib.ListN.{length, getD}
 use borrow.Author.Tests.{ne-eqb}
 use Rattle.meaning.specs.Lists.{isNil, lastOr}
 use Rattle.meaning.specs.Rows.{Row, Sizes}
-use Rattle.meaning.specs.Bytes.{rulesIn, wordAt}
+use Rattle.meaning.specs.Bytes.{rulesIn}
 use Rattle.meaning.specs.Listing.{dead, shown, front, after}
-use Rattle.meaning.proofs.After.{SomeValues, reached-last}
 use Rattle.meaning.specs.Inner.{allLast}
+use Rattle.meaning.proofs.After.{SomeValues, reached-last}
 use Rattle.meaning.proofs.Paged.{front-none, page-reached, page-begins}
 use Rattle.listing.specs.declared.cursor.Cursor.{Cursor}
 use Rattle.listing.specs.declared.walk.Walk.{Walk}
 use Rattle.listing.specs.declared.paging.Outcome.the-variants.{Listed}
-use Rattle.listing.specs.Sizes.{Limited, Limits}
+use Rattle.listing.specs.Inner.{Limited, Plain, finishedOf, pastOf, S, runs, Resumes, Starts}
 use Rattle.listing.specs.Cursors.{prefixOf, cursorOf}
-use Rattle.listing.specs.Prefixes.{Plain, prefix-cursor, cursor-len, plain-cursor, Good, begins-length}
-use Rattle.listing.specs.Standing.{AllStand}
-use Rattle.listing.specs.Course.{pastOf, past-after}
-use Rattle.listing.specs.Steps.{S, runs}
-use Rattle.listing.specs.Starting.{Resumes}
-use Rattle.listing.specs.Filled.{lastD, last-dead, filledOf, page-filled}
-use Rattle.listing.specs.Ending.{finishedOf}
 use Rattle.listing.specs.Pages.{P, listedIn}
-
--- ---- what is asked
-
--- the rules of the book stand from place 7 on, and the sizes are within their limits
-pub record Standard (b : List ℕ) (rules : ℕ) (ns : Sizes) : Type 0 where
-  pub limited : Limited ns
-  pub settings : 1 ≤ length ns
-  pub stand : AllStand b 7 rules
-  pub count : wordAt b 5 ≡ rules
-  pub few : rules ≤ 24576
-
--- and no refusal is due
-pub record Starts (b : List ℕ) (rules : ℕ) (ns : Sizes) (c : Cursor) (o : List ℕ) (budget : ℕ) : Type 0 where
-  pub standard : Standard b rules ns
-  pub good : Good ns c
-  pub row : length ns ≤ length o
-  pub step : 1 ≤ budget
-
--- the same of a book of edition 1
-pub record Numbers (b : List ℕ) (n l rules : ℕ) : Type 0 where
-  pub limits : Limits n l
-  pub stand : AllStand b 7 rules
-  pub count : wordAt b 5 ≡ rules
-  pub few : rules ≤ 24576
+use Rattle.listing.proofs.laws.Prefixes.{prefix-cursor, cursor-len, plain-cursor, begins-length}
+use Rattle.listing.proofs.laws.Course.{past-after}
+use Rattle.listing.proofs.laws.Filled.{lastD, last-dead, filledOf, page-filled}
 
 -- ---- the walk's end is the page's
 

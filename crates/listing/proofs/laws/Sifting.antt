@@ -3,37 +3,24 @@
 use Prim.Native.Nat.{ℕ, _+_, _*_, _≤_, _<_}
 use native.Mathlib.Omega.{arith}
 use mathlib.Core.Path.{_≡_, refl, sym, ap, _∙_}
-use mathlib.Core.Bool.{Bool, true, false, cond, true≢false}
+use mathlib.Core.Bool.{Bool, true, false, true≢false}
 use mathlib.Core.Logic.{inl, inr}
 use mathlib.Core.List.{List, [], _∷_, _++_, append-assoc}
-use lib.Dec.{ltb, eqb}
+use lib.Dec.{eqb}
 use lib.ListN.{length, length-set, getD, set}
 use lib.Seq.{getD-set-same, getD-set-other}
 use borrow.Author.Tests.{lt-ltb, le-ltb}
-use Rattle.meaning.proofs.Tests.{lt-or-le}
 use Rattle.meaning.specs.Rows.{Row}
 use Rattle.meaning.specs.Bytes.{ruleAt, endAt}
 use Rattle.meaning.specs.Listing.{dead}
+use Rattle.meaning.proofs.Tests.{lt-or-le}
 use Rattle.listing.specs.declared.scan.Passed.{Passed}
 use Rattle.listing.specs.declared.scan.Passed.the-variants.{Holds, Left}
-use Rattle.listing.specs.Early.{earlyOf}
-use Rattle.listing.specs.Literals.{early-holds}
-use Rattle.listing.specs.Parting.{eq-or, settleList, settleCount, Parting, Parted, parting-start, parting-on, parting-end}
-use Rattle.listing.specs.Ruled.{Laid, Within, Kept, kept-same, kept-on, kept-wider, kept-stirred, Hit, Ruled, ruled-kept}
-use Rattle.listing.specs.Looking.{never-dead}
-
--- the setting of the last literal of the rule at place p
-abbrev pub lastOf : List ℕ → ℕ → ℕ
-lastOf b p = getD b (p + 3 * getD b (p + 2) 0) 0
-
--- no literal of those passed holds
-unfoldable pub isOpen : Passed → Bool
-isOpen (Holds q) = false
-isOpen (Left q m) = true
-
--- of the rule at place p: for g below 16, is its last literal on g; else, does the prefix x leave it open?
-unfoldable pub wantedOf : List ℕ → Row → ℕ → ℕ → Bool
-wantedOf b x g p = cond (ltb g 16) (eqb (lastOf b p) g) (isOpen (earlyOf b x (p + 3) (getD b (p + 2) 0)))
+use Rattle.listing.specs.Inner.{earlyOf, settleList, settleCount, Parted, Laid, Kept, Hit, Ruled, isOpen, wantedOf, Siftable, Narrowable, Narrowed}
+use Rattle.listing.proofs.laws.Literals.{early-holds}
+use Rattle.listing.proofs.laws.Parting.{eq-or, Parting, parting-start, parting-on, parting-end}
+use Rattle.listing.proofs.laws.Ruled.{kept-same, kept-on, kept-wider, kept-stirred, ruled-kept}
+use Rattle.listing.proofs.laws.Looking.{never-dead}
 
 -- ---- the ways out of `wanted`
 
@@ -61,12 +48,6 @@ not-open b x p h y = go (earlyOf b x (p + 3) (getD b (p + 2) 0)) refl h
 
 -- ---- the loop that sifts
 
-pub record Siftable (b p : List ℕ) (lo hi n : ℕ) : Type 0 where
-  pub low : lo ≤ hi
-  pub inside : hi ≤ length p
-  pub hints : length p ≤ n
-  pub ends : (i : ℕ) → lo ≤ i → i < hi → endAt b (getD p i 0) ≤ length b
-
 pub record Sifting (w : ℕ → Bool) (p : List ℕ) (lo hi n : ℕ) (q : List ℕ) (m i k : ℕ) : Type 0 where
   pub parting : Parting w p lo hi q i k
   pub long : m ≡ n
@@ -92,18 +73,6 @@ module _ (b : List ℕ) (w : ℕ → Bool) (p : List ℕ) (lo hi n : ℕ) (a : S
     sifting-end h = parting-end w p lo hi q i k (y .parting) h
 
 -- ---- the fronts below a prefix
-
-pub record Narrowable (b p s e : List ℕ) (n : ℕ) : Type 0 where
-  pub laid : Laid s e (length p)
-  pub hints : length p ≤ n
-  pub ends : (g i : ℕ) → g < 16 → getD s g 0 ≤ i → i < getD e g 0 → endAt b (getD p i 0) ≤ length b
-
--- from p and the fronts e to q and the fronts f: what decides below x still does
-pub record Narrowed (b : List ℕ) (x : Row) (p s e q f : List ℕ) : Type 0 where
-  pub kept : Kept s e p q
-  pub within : Within f e
-  pub laid : Laid s f (length q)
-  pub ruled : (d : Row → Bool) (at k : ℕ) → Ruled b d x p s e at k → Ruled b d x q s f at k
 
 pub narrowed-none : (b : List ℕ) (x : Row) (p s e : List ℕ) (n : ℕ) → Narrowable b p s e n → Narrowed b x p s e p e
 narrowed-none b x p s e n a = record { kept = kept-same s e p; within = record { under = λ g h. omega arith }; laid = a .laid; ruled = λ d at k r. r }

@@ -3,7 +3,7 @@ use Prim.Native.Nat.{ℕ, _+_, _-_, _≤_, _<_}
 use native.Mathlib.Nat.{sub-zero}
 use native.Mathlib.Omega.{arith}
 use mathlib.Core.Path.{_≡_, refl, sym, ap, _∙_}
-use mathlib.Core.Bool.{Bool, true, false, cond, not, _||_, or-false, true≢false}
+use mathlib.Core.Bool.{Bool, true, false, not, _||_, or-false, true≢false}
 use mathlib.Core.List.{List, [], _∷_, _++_, append-nil}
 use lib.Dec.{eqb}
 use lib.Seq.{append-snoc}
@@ -15,26 +15,8 @@ use Rattle.meaning.specs.Listing.{dead}
 use Rattle.meaning.proofs.Dead.{dead-append}
 use Rattle.listing.specs.declared.scan.Judged.{Judged}
 use Rattle.listing.specs.declared.scan.Span.{Span}
-use Rattle.listing.specs.declared.scan.Scanned.{Scanned}
-use Rattle.listing.specs.Standing.{Stands, AllStand, place-add, place-next, rules-add, rules-split, stand-at, stand-part}
-use Rattle.listing.specs.Judging.{Judges}
-use Rattle.listing.specs.Values.{forbidden, Forbids}
-
--- d, below the prefix x, is what the k rules from place `at` on say
-pub record Window (b : List ℕ) (d : Row → Bool) (x : Row) (at k : ℕ) : Type 0 where
-  pub few : k ≤ 24576
-  pub stand : AllStand b at k
-  pub tells : (y : Row) → d (x ++ y) ≡ dead (rulesAt b at k) (x ++ y)
-
--- what a scan below x gives: the values of a set that may follow x, and a window for each of those prefixes
-pub record Scans (b : List ℕ) (d : Row → Bool) (x : Row) (set : ℕ) (s : Scanned) : Type 0 where
-  pub values : (v : ℕ) → v < 64 → forbidden (s .allowed) v ≡ d (x ++ (v ∷ [])) || forbidden set v
-  pub window : (v : ℕ) → d (x ++ (v ∷ [])) ≡ false → Window b d (x ++ (v ∷ [])) (s .at) (s .rules)
-
--- the span with rule i, whose mark is at place `at`, if it lasts
-unfoldable pub widenOf : Span → Bool → ℕ → ℕ → Span
-widenOf w lasts at i =
-    cond lasts (cond (eqb (w .end) 0) (record { at = at; first = i; end = i + 1 }) (record { at = w .at; first = w .first; end = i + 1 })) w
+use Rattle.listing.specs.Inner.{Stands, Judges, forbidden, Forbids, Window, Scans, widenOf}
+use Rattle.listing.proofs.laws.Standing.{place-add, place-next, rules-add, rules-split, stand-at, stand-part}
 
 -- ---- the ways out of `widen`
 
