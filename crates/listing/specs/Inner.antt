@@ -20,8 +20,7 @@ use Rattle.listing.specs.declared.scan.Passed.the-variants.{Holds, Left}
 use Rattle.listing.specs.declared.scan.Judged.{Judged}
 use Rattle.listing.specs.declared.scan.Span.{Span}
 use Rattle.listing.specs.declared.scan.Scanned.{Scanned}
-use Rattle.listing.specs.declared.groups.Groups.{Groups}
-use Rattle.listing.specs.declared.walk.Walk.{Walk}
+use Rattle.listing.specs.declared.steps.Walk.{Walk}
 
 -- at most sixteen settings, each of 1 to 64 values
 pub record Limited (ns : List ℕ) : Type 0 where
@@ -119,12 +118,23 @@ pub record Window (b : List ℕ) (d : Row → Bool) (x : Row) (at k : ℕ) : Typ
 -- what a scan below x gives: the values of a set that may follow x, and a window for each of those prefixes
 pub record Scans (b : List ℕ) (d : Row → Bool) (x : Row) (set : ℕ) (s : Scanned) : Type 0 where
   pub values : (v : ℕ) → v < 64 → forbidden (s .allowed) v ≡ d (x ++ (v ∷ [])) || forbidden set v
+  pub stand : AllStand b (s .at) (s .rules)
   pub window : (v : ℕ) → d (x ++ (v ∷ [])) ≡ false → Window b d (x ++ (v ∷ [])) (s .at) (s .rules)
 
 -- the span with rule i, whose mark is at place `at`, if it lasts
 unfoldable pub widenOf : Span → Bool → ℕ → ℕ → Span
 widenOf w lasts at i =
     cond lasts (cond (eqb (w .end) 0) (record { at = at; first = i; end = i + 1 }) (record { at = w .at; first = w .first; end = i + 1 })) w
+
+-- if it says yes, whatever has the value v or more at setting i meets the rule at place p
+pub record Passes (b : List ℕ) (p i v : ℕ) (r : Bool) : Type 0 where
+  pub met-by : r ≡ true → (x y : Row) (u : ℕ) → length x ≡ i → v ≤ u → met (ruleAt b p) (x ++ (u ∷ y)) ≡ true
+
+-- of what has the value v or more at setting i, the `left` rules from place q on say what the k rules from place p on say
+pub record Trims (b : List ℕ) (p k i v q left : ℕ) : Type 0 where
+  pub few : left ≤ k
+  pub stand : AllStand b q left
+  pub same : (x y : Row) (u : ℕ) → length x ≡ i → v ≤ u → dead (rulesAt b p k) (x ++ (u ∷ y)) ≡ dead (rulesAt b q left) (x ++ (u ∷ y))
 
 -- a place from lo up to below hi at which q has the element e
 pub record Has (q : List ℕ) (lo hi e : ℕ) : Type 0 where
@@ -234,10 +244,11 @@ pub record Open (b : List ℕ) (d : Row → Bool) (x : Row) (p s e : List ℕ) (
   pub laid : Laid s e (length p)
   pub hints : length p ≤ n
 
--- the values that may follow x, and what decides below each of those prefixes
-pub record Looks (b : List ℕ) (d : Row → Bool) (x : Row) (p s e : List ℕ) (r : Scanned) : Type 0 where
+-- the values that may follow x, and what decides below those prefixes, from the value `from` on
+pub record Looks (b : List ℕ) (d : Row → Bool) (x : Row) (p s e : List ℕ) (from : ℕ) (r : Scanned) : Type 0 where
   pub values : (v : ℕ) → v < 64 → forbidden (r .allowed) v ≡ d (x ++ (v ∷ []))
-  pub next : (v : ℕ) → d (x ++ (v ∷ [])) ≡ false → Ruled b d (x ++ (v ∷ [])) p s e (r .at) (r .rules)
+  pub stand : AllStand b (r .at) (r .rules)
+  pub next : (v : ℕ) → from ≤ v → d (x ++ (v ∷ [])) ≡ false → Ruled b d (x ++ (v ∷ [])) p s e (r .at) (r .rules)
 
 -- the setting of the last literal of the rule at place p
 abbrev pub lastOf : List ℕ → ℕ → ℕ
@@ -248,9 +259,9 @@ unfoldable pub isOpen : Passed → Bool
 isOpen (Holds q) = false
 isOpen (Left q m) = true
 
--- of the rule at place p: for g below 16, is its last literal on g; else, does the prefix x leave it open?
-unfoldable pub wantedOf : List ℕ → Row → ℕ → ℕ → Bool
-wantedOf b x g p = cond (ltb g 16) (eqb (lastOf b p) g) (isOpen (earlyOf b x (p + 3) (getD b (p + 2) 0)))
+-- does the prefix x leave the rule at place p open?
+unfoldable pub openOf : List ℕ → Row → ℕ → Bool
+openOf b x p = isOpen (earlyOf b x (p + 3) (getD b (p + 2) 0))
 
 pub record Siftable (b p : List ℕ) (lo hi n : ℕ) : Type 0 where
   pub low : lo ≤ hi
@@ -270,9 +281,27 @@ pub record Narrowed (b : List ℕ) (x : Row) (p s e q f : List ℕ) : Type 0 whe
   pub laid : Laid s f (length q)
   pub ruled : (d : Row → Bool) (at k : ℕ) → Ruled b d x p s e at k → Ruled b d x q s f at k
 
-pub record Filled (b : List ℕ) (n : ℕ) (p : List ℕ) (r : ℕ) : Type 0 where
-  pub next : r ≡ placeAt b 7 n
-  pub done : (j : ℕ) → j < n → getD p j 0 ≡ placeAt b 7 j
+-- space for groups of at most 4,096 entries together, and nothing entered yet
+pub record Ladder (s e : List ℕ) : Type 0 where
+  pub starts : length s ≡ 17
+  pub ends : length e ≡ 16
+  pub up : (g : ℕ) → g < 16 → getD s g 0 ≤ getD s (g + 1) 0
+  pub top : (g : ℕ) → g < 16 → getD s (g + 1) 0 ≤ 4096
+  pub none : (g : ℕ) → g < 16 → getD e g 0 ≡ getD s g 0
+
+-- if it says yes, the rules at places p and q are equal
+pub record Same (b : List ℕ) (p q : ℕ) (r : Bool) : Type 0 where
+  pub equal : r ≡ true → ruleAt b p ≡ ruleAt b q
+
+-- the rule at place q stands inside the bytes, and that at place p too, unless p is 0
+pub record Twice (b : List ℕ) (p q : ℕ) : Type 0 where
+  pub old : (p ≡ 0 → ⊥) → endAt b p ≤ length b
+  pub new : endAt b q ≤ length b
+
+-- the same, where p may be 0, the place of no rule
+pub record Again (b : List ℕ) (p q : ℕ) (r : Bool) : Type 0 where
+  pub same : Same b p q r
+  pub real : r ≡ true → p ≡ 0 → ⊥
 
 -- a rule of the first n stands at place e
 pub record OneOf (b : List ℕ) (n e : ℕ) : Type 0 where
@@ -280,10 +309,31 @@ pub record OneOf (b : List ℕ) (n e : ℕ) : Type 0 where
   pub under : at < n
   pub is : e ≡ placeAt b 7 at
 
-pub record Grouped (b : List ℕ) (n : ℕ) (p : List ℕ) (r : Groups) : Type 0 where
-  pub laid : Laid (r .starts) (r .ends) (length p)
-  pub entries : (g i : ℕ) → g < 16 → getD (r .starts) g 0 ≤ i → i < getD (r .ends) g 0 → OneOf b n (getD p i 0)
-  pub found : (k : ℕ) → k < n → (g : ℕ) → lastOf b (placeAt b 7 k) ≡ g → g < 16 → Has p (getD (r .starts) g 0) (getD (r .ends) g 0) (placeAt b 7 k)
+-- an entry of group g for the first n rules: it stands at place e and has its last literal on setting g
+pub record EntryOf (b : List ℕ) (n g e : ℕ) : Type 0 where
+  pub one : OneOf b n e
+  pub last : lastOf b e ≡ g
+
+-- in some front there is an entry whose rule is that at place q
+pub record Entered (b p s e : List ℕ) (q : ℕ) : Type 0 where
+  pub group : ℕ
+  pub known : group < 16
+  pub at : ℕ
+  pub above : getD s group 0 ≤ at
+  pub under : at < getD e group 0
+  pub is : ruleAt b (getD p at 0) ≡ ruleAt b q
+
+-- the first n rules, each entered in the group of its last setting
+pub record Grouped (b : List ℕ) (n : ℕ) (p s e : List ℕ) : Type 0 where
+  pub laid : Laid s e (length p)
+  pub entries : (g i : ℕ) → g < 16 → getD s g 0 ≤ i → i < getD e g 0 → EntryOf b n g (getD p i 0)
+  pub found : (k : ℕ) → k < n → Entered b p s e (placeAt b 7 k)
+
+-- of so many rules all are entered but `left`, which stand from place `at` on
+pub record Sorted (b : List ℕ) (rules : ℕ) (p s e : List ℕ) (at left : ℕ) : Type 0 where
+  pub few : left ≤ rules
+  pub next : at ≡ placeAt b 7 (rules - left)
+  pub grouped : Grouped b (rules - left) p s e
 
 -- none is left: no step was made; or nothing is below the last prefix, and each of its values is the last of its setting
 unfoldable pub finishedOf : Sizes → Walk → Bool
@@ -342,12 +392,6 @@ module _ (d : Row → Bool) (l fit budget : ℕ) where
   runs [] s = s
   runs (x ∷ xs) s = runs xs (visitOf x s)
 
-pub record Fits (room : List ℕ) (w : Walk) (q : Cursor) (l fit budget : ℕ) : Type 0 where
-  pub cells : fit * l ≤ length room
-  pub row : w .rows < fit
-  pub step : w .steps < budget
-  pub plain : Plain q
-
 pub record Ready (ns : Sizes) (room : List ℕ) (cur : Cursor) (levels fit : ℕ) : Type 0 where
   pub cells : fit * length ns ≤ length room
   pub plain : Plain cur
@@ -357,8 +401,8 @@ pub record Ready (ns : Sizes) (room : List ℕ) (cur : Cursor) (levels fit : ℕ
 pub record OpenIf (b : List ℕ) (d : Row → Bool) (x : Row) (p s e : List ℕ) (at k n levels : ℕ) : Type 0 where
   pub opens : (levels ≡ 0 → ⊥) → Open b d x p s e at k n
 
-pub record LooksIf (b : List ℕ) (d : Row → Bool) (x : Row) (p s e : List ℕ) (levels : ℕ) (r : Scanned) : Type 0 where
-  pub looks : (levels ≡ 0 → ⊥) → Looks b d x p s e r
+pub record LooksIf (b : List ℕ) (d : Row → Bool) (x : Row) (p s e : List ℕ) (from levels : ℕ) (r : Scanned) : Type 0 where
+  pub looks : (levels ≡ 0 → ⊥) → Looks b d x p s e from r
 
 module _ (d : Row → Bool) (ns : Sizes) (cur : Cursor) (levels fit budget : ℕ) where
   -- the values from v on, of n
@@ -372,6 +416,11 @@ module _ (d : Row → Bool) (ns : Sizes) (cur : Cursor) (levels fit budget : ℕ
   pub record Going (from : ℕ) (st : Walk) (o₀ o : List ℕ) (w : Walk) (v : ℕ) : Type 0 where
     pub long : length o ≡ length o₀
     pub left : runs d (length ns) fit budget (leftAt (getD ns (cur .len) 0) v) (w, o) ≡ wholeOf from (st, o₀)
+
+-- one turn: from the walk w at the value v, with o in the room, to the walk r at a later value u, with nothing left out
+pub record Turns (d : Row → Bool) (ns : Sizes) (cur : Cursor) (levels fit budget : ℕ) (w : Walk) (o : List ℕ) (v : ℕ) (r : Walk) (o₁ : List ℕ) (u : ℕ) : Type 0 where
+  pub ahead : v < u
+  pub on : (from : ℕ) (st : Walk) (o₀ : List ℕ) → Going d ns cur levels fit budget from st o₀ o w v → Going d ns cur levels fit budget from st o₀ o₁ r u
 
 pub record Allows (d : Row → Bool) (x : Row) (set : ℕ) : Type 0 where
   pub is : (v : ℕ) → v < 64 → forbidden set v ≡ d (x ++ (v ∷ []))

@@ -16,13 +16,27 @@ ghost use lib.ListN.{length};
 ghost use Rattle.meaning.specs.Bytes.{endAt, ruleAt, rulesIn};
 ghost use Rattle.meaning.specs.Listing.{dead};
 ghost use Rattle.listing.specs.Cursors.{prefixOf};
-ghost use Rattle.listing.specs.Inner.{Plain, Stands, AllStand, settleList, settleCount, Parted, Shows, Asks, Askable, Asked, Open, Looks, wantedOf, Siftable, Narrowable, Narrowed, Filled, Grouped};
+ghost use Rattle.listing.specs.Inner.{Plain, Stands, settleList, settleCount, Parted, Shows, Asks, Askable, Asked, Open, Looks, openOf, Siftable, Narrowable, Narrowed};
 
 // A place as a number.
-fn place(x: u32) -> usize
+pub fn place(x: u32) -> usize
     ensures { λ r. ⌜ r ≡ x ⌝ }
 {
     x as usize
+}
+
+// The number of an entry as it stands in the groups' bounds, and back.
+pub fn entry(x: u16) -> usize
+    ensures { λ r. ⌜ (r ≡ x) × (r < 65536) ⌝ }
+{
+    x as usize
+}
+
+pub fn short(x: usize) -> u16
+    requires { ⌜ x < 65536 ⌝ }
+    ensures { λ r. ⌜ r ≡ x ⌝ }
+{
+    x as u16
 }
 
 // Does the literal of this number, from 1, of the rule at place `at` show that all that begin with the prefix meet it?
@@ -81,32 +95,28 @@ pub fn look(
     book: &[u8],
     places: &[u32],
     hints: &mut [u8],
-    starts: &[usize],
-    ends: [usize; 16],
+    starts: &[u16],
+    ends: [u16; 16],
     at: usize,
     rules: usize,
     cur: Cursor,
 ) -> Scanned
     requires { ⌜ Plain cur × (cur .len < 16) × Open (now book) (dead (rulesIn (now book))) (prefixOf cur) (now places) (now starts) ends at rules (length (now hints)) ⌝ }
-    ensures { λ r. ⌜ Looks (now (book .entry)) (dead (rulesIn (now (book .entry)))) (prefixOf cur) (now (places .entry)) (now (starts .entry)) ends r ⌝ }
+    ensures { λ r. ⌜ Looks (now (book .entry)) (dead (rulesIn (now (book .entry)))) (prefixOf cur) (now (places .entry)) (now (starts .entry)) ends 0 r ⌝ }
 {
     let len = cur.len;
-    let from = starts[len];
-    let end = ends[len];
+    let from = entry(starts[len]);
+    let end = entry(ends[len]);
     let set = group(book, places, hints, from, end, cur);
     scan(book, at, rules, cur, set)
 }
 
-// Of the rule at place `at`: for g below 16, is its last literal on setting g; else, does the prefix leave it open?
-fn wanted(book: &[u8], at: usize, cur: Cursor, g: usize) -> bool
+// Does the prefix leave the rule at place `at` open: does no literal on its settings hold?
+fn leaves_open(book: &[u8], at: usize, cur: Cursor) -> bool
     requires { ⌜ Plain cur × (endAt (now book) at ≤ length (now book)) ⌝ }
-    ensures { λ r. ⌜ r ≡ wantedOf (now (book .entry)) (prefixOf cur) g at ⌝ }
+    ensures { λ r. ⌜ r ≡ openOf (now (book .entry)) (prefixOf cur) at ⌝ }
 {
     let count = wide(book[at + 2]);
-    if g < 16 {
-        let last = wide(book[at + 3 * count]);
-        return last == g;
-    }
     match early(book, at + 3, count, cur) {
         Passed::Holds(_) => false,
         Passed::Left(_, _) => true,
@@ -132,7 +142,7 @@ fn settle(places: &mut [u32], hints: &mut [u8], i: usize, k: usize, yes: bool) -
     k + 1
 }
 
-// Brings the wanted entries of those from `from` up to below `end` to the front; where the others begin.
+// Brings those of the entries from `from` up to below `end` that the prefix leaves open to the front; where the others begin.
 fn sift(
     book: &[u8],
     places: &mut [u32],
@@ -140,16 +150,15 @@ fn sift(
     from: usize,
     end: usize,
     cur: Cursor,
-    g: usize,
 ) -> usize
     requires { ⌜ Plain cur × Siftable (now book) (now places) from end (length (now hints)) ⌝ }
-    ensures { λ r. ⌜ Parted (wantedOf (now (book .entry)) (prefixOf cur) g) (now (places .entry)) from end (now (places .exit)) r ⌝ }
+    ensures { λ r. ⌜ Parted (openOf (now (book .entry)) (prefixOf cur)) (now (places .entry)) from end (now (places .exit)) r ⌝ }
 {
     let mut i = from;
     let mut k = from;
     while i < end {
         let at = place(places[i]);
-        let yes = wanted(book, at, cur, g);
+        let yes = leaves_open(book, at, cur);
         k = settle(places, hints, i, k, yes);
         i += 1;
     }
@@ -161,64 +170,22 @@ pub fn narrow(
     book: &[u8],
     places: &mut [u32],
     hints: &mut [u8],
-    starts: &[usize],
-    ends: [usize; 16],
+    starts: &[u16],
+    ends: [u16; 16],
     cur: Cursor,
     l: usize,
-) -> [usize; 16]
+) -> [u16; 16]
     requires { ⌜ Plain cur × (l ≤ 16) × Narrowable (now book) (now places) (now starts) ends (length (now hints)) ⌝ }
     ensures { λ r. ⌜ Narrowed (now (book .entry)) (prefixOf cur) (now (places .entry)) (now (starts .entry)) ends (now (places .exit)) r ⌝ }
 {
     let mut fronts = ends;
     let mut g = cur.len;
     while g < l {
-        let from = starts[g];
-        let end = fronts[g];
-        let k = sift(book, places, hints, from, end, cur, 16);
-        fronts[g] = k;
+        let from = entry(starts[g]);
+        let end = entry(fronts[g]);
+        let k = sift(book, places, hints, from, end, cur);
+        fronts[g] = short(k);
         g += 1;
     }
     fronts
-}
-
-// The groups: group g from entry `starts[g]` up to below `starts[g + 1]`, its front up to below `ends[g]`.
-pub struct Groups {
-    pub starts: [usize; 17],
-    pub ends: [usize; 16],
-}
-
-// Enters the places of the first n rules; where the next rule stands.
-pub fn fill(book: &[u8], n: usize, places: &mut [u32]) -> usize
-    requires { ⌜ AllStand (now book) 7 n × (n ≤ length (now places)) × (n ≤ 24576) ⌝ }
-    ensures { λ r. ⌜ Filled (now (book .entry)) n (now (places .exit)) r ⌝ }
-{
-    let mut at: usize = 7;
-    let mut i: usize = 0;
-    while i < n {
-        places[i] = at as u32;
-        let count = wide(book[at + 2]);
-        at = at + 3 + 3 * count;
-        i += 1;
-    }
-    at
-}
-
-// Sorts the entries of the first n rules into groups by the setting of the last literal.
-pub fn sort(book: &[u8], n: usize, places: &mut [u32], hints: &mut [u8], at: usize) -> Groups
-    requires { ⌜ AllStand (now book) 7 n × (n ≤ length (now places)) × (length (now places) ≤ length (now hints)) × Filled (now book) n (now places) at ⌝ }
-    ensures { λ r. ⌜ Grouped (now (book .entry)) n (now (places .exit)) r ⌝ }
-{
-    let root = Cursor::beginning();
-    let mut starts = [0usize; 17];
-    let mut ends = [0usize; 16];
-    let mut from: usize = 0;
-    let mut g: usize = 0;
-    while g < 16 {
-        let k = sift(book, places, hints, from, n, root, g);
-        starts[g + 1] = k;
-        ends[g] = k;
-        from = k;
-        g += 1;
-    }
-    Groups { starts, ends }
 }

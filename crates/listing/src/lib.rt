@@ -3,6 +3,9 @@ mod cursor;
 mod groups;
 mod paging;
 mod scan;
+mod sorting;
+mod start;
+mod steps;
 mod values;
 mod walk;
 

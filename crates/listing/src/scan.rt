@@ -9,7 +9,7 @@ ghost use lib.ListN.{length};
 ghost use Rattle.meaning.specs.Bytes.{endAt, ruleAt, rulesAt};
 ghost use Rattle.meaning.specs.Listing.{dead};
 ghost use Rattle.listing.specs.Cursors.{prefixOf};
-ghost use Rattle.listing.specs.Inner.{Plain, Stands, holdsBy, earlyOf, intervalOf, Judges, widenOf, Window, Scans};
+ghost use Rattle.listing.specs.Inner.{Plain, Stands, holdsBy, earlyOf, intervalOf, Judges, AllStand, Passes, Trims, widenOf, Window, Scans};
 
 // A byte as a number.
 pub fn wide(x: u8) -> usize
@@ -225,4 +225,52 @@ pub fn scan(book: &[u8], from: usize, rules: usize, cur: Cursor, set: u64) -> Sc
         at: span.at,
         rules: span.end - span.first,
     }
+}
+
+// Some of the rules in a row: so many, from a place on.
+pub struct Run {
+    pub at: usize,
+    pub rules: usize,
+}
+
+// Does the rule at place `at` have a literal "setting i at least d" with d no greater than v, so that every value from v on meets it?
+fn met_from(book: &[u8], at: usize, i: usize, v: u8) -> bool
+    requires { ⌜ endAt (now book) at ≤ length (now book) ⌝ }
+    ensures { λ r. ⌜ Passes (now (book .entry)) at i v r ⌝ }
+{
+    let count = wide(book[at + 2]);
+    let mut q = at + 3;
+    let mut left = count;
+    while 0 < left {
+        let k = wide(book[q]);
+        if i < k {
+            return false;
+        }
+        let sign = book[q + 1];
+        if k == i {
+            if sign != 0 {
+                return book[q + 2] <= v;
+            }
+        }
+        q += 3;
+        left -= 1;
+    }
+    false
+}
+
+// Of `rules` rules from place `at` on, the run without those in front that every prefix meets whose value at setting i is v or more.
+pub fn trim(book: &[u8], at: usize, rules: usize, i: usize, v: u8) -> Run
+    requires { ⌜ AllStand (now book) at rules ⌝ }
+    ensures { λ r. ⌜ Trims (now (book .entry)) at rules i v (r .at) (r .rules) ⌝ }
+{
+    let mut p = at;
+    let mut left = rules;
+    while 0 < left {
+        if !met_from(book, p, i, v) {
+            return Run { at: p, rules: left };
+        }
+        p = after(book, p);
+        left -= 1;
+    }
+    Run { at: p, rules: left }
 }

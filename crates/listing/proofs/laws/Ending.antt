@@ -12,7 +12,7 @@ use borrow.Author.Tests.{eq-eqb, ne-eqb, le-leb, lt-leb}
 use Rattle.meaning.specs.Rows.{Sizes}
 use Rattle.meaning.specs.Inner.{allLast}
 use Rattle.listing.specs.declared.cursor.Cursor.{Cursor}
-use Rattle.listing.specs.declared.walk.Walk.{Walk}
+use Rattle.listing.specs.declared.steps.Walk.{Walk}
 use Rattle.listing.specs.Cursors.{prefixOf}
 use Rattle.listing.specs.Inner.{Plain, finishedOf}
 use Rattle.listing.proofs.laws.Prefixes.{plain-length}

@@ -15,7 +15,7 @@ use Rattle.books.specs.Inner.{putAt}
 use Rattle.meaning.proofs.Paged.{front-rows}
 use Rattle.books.proofs.laws.Put.{putAt-length, putAt-nothing, putAt-putAt}
 use Rattle.listing.specs.declared.cursor.Cursor.{Cursor}
-use Rattle.listing.specs.declared.walk.Walk.{Walk}
+use Rattle.listing.specs.declared.steps.Walk.{Walk}
 use Rattle.listing.specs.Cursors.{prefixOf, cursorOf}
 use Rattle.listing.specs.Inner.{Plain, S, walkOf, moveOf, visitOf, runs}
 use Rattle.listing.specs.Pages.{flat}

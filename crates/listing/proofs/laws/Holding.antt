@@ -1,5 +1,5 @@
 -- Holding: what a walk keeps true of the entries while it goes down and comes back.
-use Prim.Native.Nat.{ℕ}
+use Prim.Native.Nat.{ℕ, _≤_}
 use native.Mathlib.Omega.{arith}
 use mathlib.Core.Path.{_≡_, refl, sym, _∙_}
 use mathlib.Core.Bool.{Bool}
@@ -40,21 +40,24 @@ held-start b s e p n a = record { kept = kept-same s e p; able = a; long = refl 
 pub kept-below : (b : List ℕ) (x : Row) (s e p q f r : List ℕ) (n : ℕ) → Narrowable b p s e n → Narrowed b x p s e q f → Kept s f q r → Kept s e p r
 kept-below b x s e p q f r n a w k = kept-on s e p q r (w .kept) (kept-wider s f e q r (length p) (a .laid) (w .within) k)
 
-pub held-on : (b s e p₀ : List ℕ) (n₀ : ℕ) (p : List ℕ) (n : ℕ) → Held b s e p₀ n₀ p n → (x : Row) (q f : List ℕ) → Narrowed b x p s e q f
-    → (r : List ℕ) → Kept s f q r → (m : ℕ) → m ≡ n → Held b s e p₀ n₀ r m
-held-on b s e p₀ n₀ p n y x q f w r k m h =
-    let t = kept-below b x s e p q f r n (y .able) w k in
-    record { kept = kept-on s e p₀ p r (y .kept) t; able = able-kept b p s e r n m (y .able) t h; long = h ∙ y .long }
+pub held-on : (b s e p₀ : List ℕ) (n₀ : ℕ) (p : List ℕ) (n : ℕ) → Held b s e p₀ n₀ p n → (q : List ℕ) → Kept s e p q → (m : ℕ) → m ≡ n → Held b s e p₀ n₀ q m
+held-on b s e p₀ n₀ p n y q k m h = record { kept = kept-on s e p₀ p q (y .kept) k; able = able-kept b p s e q n m (y .able) k h; long = h ∙ y .long }
 
 -- ---- a look that is made only where a level is gone into
 
-pub looks-none : (b : List ℕ) (d : Row → Bool) (x : Row) (p s e : List ℕ) (levels : ℕ) (r : Scanned) → levels ≡ 0 → LooksIf b d x p s e levels r
-looks-none b d x p s e levels r h = record { looks = λ z. absurd (z h) }
+pub looks-none : (b : List ℕ) (d : Row → Bool) (x : Row) (p s e : List ℕ) (from levels : ℕ) (r : Scanned) → levels ≡ 0 → LooksIf b d x p s e from levels r
+looks-none b d x p s e from levels r h = record { looks = λ z. absurd (z h) }
 
-pub looks-some : (b : List ℕ) (d : Row → Bool) (x : Row) (p s e : List ℕ) (levels : ℕ) (r : Scanned) → Looks b d x p s e r → LooksIf b d x p s e levels r
-looks-some b d x p s e levels r a = record { looks = λ z. a }
+pub looks-some : (b : List ℕ) (d : Row → Bool) (x : Row) (p s e : List ℕ) (from levels : ℕ) (r : Scanned) → Looks b d x p s e from r → LooksIf b d x p s e from levels r
+looks-some b d x p s e from levels r a = record { looks = λ z. a }
 
-pub looks-kept : (b : List ℕ) (d : Row → Bool) (x : Row) (p s e q : List ℕ) (levels : ℕ) (r : Scanned) → Kept s e p q → LooksIf b d x p s e levels r → LooksIf b d x q s e levels r
-looks-kept b d x p s e q levels r k a = record {
-  looks = λ z. record { values = a .looks z .values; next = λ v l. ruled-kept b d (x ++ (v ∷ [])) s e (r .at) (r .rules) p q k (a .looks z .next v l) };
+-- of fewer values, and with the entries stirred
+pub looks-kept : (b : List ℕ) (d : Row → Bool) (x : Row) (p s e q : List ℕ) (from to : ℕ) (r : Scanned) → Kept s e p q → from ≤ to → Looks b d x p s e from r → Looks b d x q s e to r
+looks-kept b d x p s e q from to r k h a = record {
+  values = a .values;
+  stand = a .stand;
+  next = λ v i l. ruled-kept b d (x ++ (v ∷ [])) s e (r .at) (r .rules) p q k (a .next v (omega arith) l);
 }
+
+pub looks-later : (b : List ℕ) (d : Row → Bool) (x : Row) (p s e q : List ℕ) (to levels : ℕ) (r : Scanned) → Kept s e p q → LooksIf b d x p s e 0 levels r → LooksIf b d x q s e to levels r
+looks-later b d x p s e q to levels r k a = record { looks = λ z. looks-kept b d x p s e q 0 to r k (omega arith) (a .looks z) }

@@ -1,43 +1,32 @@
 -- Leaves: the last level. Its values are visited in one loop that counts; the cursor of the last one is made at the end.
 use Prim.Native.Nat.{ℕ, suc, _+_, _*_, _-_, _≤_, _<_}
 use native.Mathlib.Nat.{mul-le-mul-left, mul-le-mul-right}
-use native.Mathlib.Numerals.{add-one}
 use native.Mathlib.Omega.{arith}
 use mathlib.Core.Path.{_≡_, refl, ap, _∙_}
 use mathlib.Core.Bool.{Bool, true, false}
 use mathlib.Core.Logic.{_⊎_, inl, inr}
-use mathlib.Core.List.{List, [], _∷_}
-use lib.ListN.{length, getD, set}
-use lib.Seq.{set-split}
+use mathlib.Core.List.{List, [], _∷_, _++_}
+use lib.ListN.{length, getD}
 use borrow.Author.Tests.{eq-eqb, ne-eqb}
 use Rattle.meaning.specs.Rows.{Row, Sizes}
 use Rattle.books.specs.Inner.{putAt}
-use Rattle.books.proofs.laws.Put.{putAt-putAt, putAt-length}
 use Rattle.listing.specs.declared.cursor.Cursor.{Cursor}
-use Rattle.listing.specs.declared.walk.Walk.{Walk}
+use Rattle.listing.specs.declared.steps.Walk.{Walk}
 use Rattle.listing.specs.Cursors.{prefixOf}
-use Rattle.listing.specs.Inner.{Plain, pushOf, forbidden, S, walkOf, moveOf, Ready, Going, wholeOf, Allows, leafRows, leafRoom, leafOf}
-use Rattle.listing.proofs.laws.Prefixes.{plain-length, push-prefix}
+use Rattle.listing.specs.Inner.{pushOf, forbidden, S, walkOf, moveOf, Ready, Going, wholeOf, Allows, leafRows, leafRoom, leafOf}
+use Rattle.listing.proofs.laws.Prefixes.{push-prefix}
 use Rattle.listing.proofs.laws.Turns.{going-start, going-rows, going-steps, going-end, leaf-on}
 
 -- ---- one leaf: a row, if it is not dead
-
-set-put : (o : List ℕ) (k v : ℕ) → k < length o → set o k v ≡ putAt o k (v ∷ [])
-unfolding putAt
-set-put o k v h = set-split o k v h ∙ rw (add-one k)
 
 pub leaf-dead : (b : Bool) (o : List ℕ) (at : ℕ) (x : Row) (v rows : ℕ) → b ≡ true → (rows ≡ leafRows b rows) × (o ≡ leafRoom b o at x v)
 unfolding leafRows leafRoom
 leaf-dead b o at x v rows e = rw e (refl, refl)
 
-pub leaf-live : (b : Bool) (o : List ℕ) (at : ℕ) (c : Cursor) (v rows : ℕ) → Plain c → at + c .len < length o → b ≡ false → (o₁ : List ℕ) → o₁ ≡ putAt o at (prefixOf c)
-    → (rows + 1 ≡ leafRows b rows) × (set o₁ (at + c .len) v ≡ leafRoom b o at (prefixOf c) v)
+pub leaf-live : (b : Bool) (o : List ℕ) (at : ℕ) (x : Row) (v rows : ℕ) → b ≡ false → (o₁ : List ℕ) → o₁ ≡ putAt o at (x ++ (v ∷ []))
+    → (rows + 1 ≡ leafRows b rows) × (o₁ ≡ leafRoom b o at x v)
 unfolding leafRows leafRoom
-leaf-live b o at c v rows p h e o₁ q =
-    let l = plain-length c p in
-    let n : length o₁ ≡ length o = ap length q ∙ putAt-length o at (prefixOf c) (omega arith) in
-    let k : at + c .len ≡ at + length (prefixOf c) = omega arith in
-    rw e (refl, set-put o₁ (at + c .len) v (omega arith) ∙ rw (q, k) (putAt-putAt o at (prefixOf c) (v ∷ []) (omega arith)))
+leaf-live b o at x v rows e o₁ q = rw e (refl, q)
 
 -- ---- the loop
 

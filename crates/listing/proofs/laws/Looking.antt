@@ -1,7 +1,7 @@
 -- Looking: which values may follow a live prefix: the front of one group is asked, entry by entry, and then the run of rules.
 use Prim.Native.Nat.{ℕ, zero, suc, _+_, _*_, _-_, _≤_, _<_}
 use native.Mathlib.Omega.{arith}
-use mathlib.Core.Path.{_≡_, refl, sym, ap, subst, _∙_}
+use mathlib.Core.Path.{_≡_, refl, sym, ap, _∙_}
 use mathlib.Core.Bool.{Bool, true, false, _||_, or-true, and-false, true≢false}
 use mathlib.Core.Logic.{_⊎_, inl, inr}
 use mathlib.Core.List.{List, [], _∷_, _++_, append-nil, append-assoc}
@@ -26,7 +26,7 @@ use Rattle.listing.proofs.laws.Values.{every, every-open}
 
 -- ---- one literal that holds shows that the rule is met
 
-met-at : (b : List ℕ) (p k j : ℕ) (z : Row) → j < k → holds (literalAt b (p + 3 * j)) z ≡ true → met (literalsAt b p k) z ≡ true
+pub met-at : (b : List ℕ) (p k j : ℕ) (z : Row) → j < k → holds (literalAt b (p + 3 * j)) z ≡ true → met (literalsAt b p k) z ≡ true
 unfolding literalsAt met
 met-at b p zero j z h e = absurd (omega arith)
 met-at b p (suc k) zero z h e = let q : p + 3 * 0 ≡ p = omega arith in rw (rw q at e)
@@ -146,8 +146,8 @@ module _ (b : List ℕ) (d : Row → Bool) (x : Row) (p s e : List ℕ) (at k n 
       entries = λ i h m. let t = o .ruled .entries (length x) i short h m in (t .stands, absent (dead (ruleAt b (getD p i 0) ∷ []) x) (λ u. true≢false (sym (t .tells x u) ∙ o .live)));
     }
 
-    pub looks-of : (set : ℕ) → Asked b x p (getD s (length x) 0) (getD e (length x) 0) set → (r : Scanned) → Scans b dr x set r → Looks b d x p s e r
-    looks-of set a r c = record { values = λ v h. values v h; next = λ v l. next v l }
+    pub looks-of : (set : ℕ) → Asked b x p (getD s (length x) 0) (getD e (length x) 0) set → (r : Scanned) → Scans b dr x set r → Looks b d x p s e 0 r
+    looks-of set a r c = record { values = λ v h. values v h; stand = c .stand; next = λ v o l. next v l }
       where
         values : (v : ℕ) → v < 64 → forbidden (r .allowed) v ≡ d (x ++ (v ∷ []))
         values v h = elim (case (d (x ++ (v ∷ [])))) [
@@ -181,11 +181,11 @@ module _ (b : List ℕ) (d : Row → Bool) (x : Row) (p s e : List ℕ) (at k n 
               | inr t ↦ inr (rw (append-assoc (x ++ (v ∷ [])) y (u ∷ [])) (sym (w .tells (y ++ (u ∷ []))) ∙ (rw (append-assoc (x ++ (v ∷ [])) y (u ∷ [])) at t)))
             ]
 
--- the same by the length of a cursor's prefix
-module _ (b : List ℕ) (d : Row → Bool) (c : Cursor) (plain : Plain c) (short : c .len < 16) (p s e : List ℕ) (at k n : ℕ) (o : Open b d (prefixOf c) p s e at k n) where
-  pub look-askable : Askable b (prefixOf c) p (getD s (c .len) 0) (getD e (c .len) 0) n
-  look-askable = rw (plain-length c plain) at (open-askable b d (prefixOf c) p s e at k n o (omega (arith, plain-length c plain)))
+-- the same by the length of a cursor's prefix, and by the bounds of its group's front
+module _ (b : List ℕ) (d : Row → Bool) (c : Cursor) (plain : Plain c) (short : c .len < 16) (p s e : List ℕ) (at k n : ℕ) (o : Open b d (prefixOf c) p s e at k n)
+    (lo hi : ℕ) (f : lo ≡ getD s (c .len) 0) (g : hi ≡ getD e (c .len) 0) where
+  pub look-askable : Askable b (prefixOf c) p lo hi n
+  look-askable = rw (f, g) (rw (plain-length c plain) at (open-askable b d (prefixOf c) p s e at k n o (omega (arith, plain-length c plain))))
 
-  pub look-looks : (set : ℕ) → Asked b (prefixOf c) p (getD s (c .len) 0) (getD e (c .len) 0) set → (r : Scanned) → Scans b (dead (rulesAt b at k)) (prefixOf c) set r
-      → Looks b d (prefixOf c) p s e r
-  look-looks set a r q = looks-of b d (prefixOf c) p s e at k n o (omega (arith, plain-length c plain)) set (subst (λ (g : ℕ). Asked b (prefixOf c) p (getD s g 0) (getD e g 0) set) (sym (plain-length c plain)) a) r q
+  pub look-looks : (set : ℕ) → Asked b (prefixOf c) p lo hi set → (r : Scanned) → Scans b (dead (rulesAt b at k)) (prefixOf c) set r → Looks b d (prefixOf c) p s e 0 r
+  look-looks set a r q = looks-of b d (prefixOf c) p s e at k n o (omega (arith, plain-length c plain)) set (rw (plain-length c plain) (rw (f, g) at a)) r q

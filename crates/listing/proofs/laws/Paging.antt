@@ -16,7 +16,7 @@ use Rattle.meaning.specs.Inner.{allLast}
 use Rattle.meaning.proofs.After.{SomeValues, reached-last}
 use Rattle.meaning.proofs.Paged.{front-none, page-reached, page-begins}
 use Rattle.listing.specs.declared.cursor.Cursor.{Cursor}
-use Rattle.listing.specs.declared.walk.Walk.{Walk}
+use Rattle.listing.specs.declared.steps.Walk.{Walk}
 use Rattle.listing.specs.declared.paging.Outcome.the-variants.{Listed}
 use Rattle.listing.specs.Inner.{Limited, Plain, finishedOf, pastOf, S, runs, Resumes, Starts}
 use Rattle.listing.specs.Cursors.{prefixOf, cursorOf}

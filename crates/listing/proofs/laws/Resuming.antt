@@ -11,9 +11,12 @@ use Rattle.meaning.specs.Rows.{Row, Sizes}
 use Rattle.meaning.specs.Listing.{below}
 use Rattle.listing.specs.declared.cursor.Cursor.{Cursor}
 use Rattle.listing.specs.declared.scan.Scanned.{Scanned}
-use Rattle.listing.specs.declared.walk.Walk.{Walk}
+use Rattle.listing.specs.declared.steps.Walk.{Walk}
 use Rattle.listing.specs.Cursors.{prefixOf}
-use Rattle.listing.specs.Inner.{pushOf, forbidden, Ruled, Open, Narrowed, part, fromOf, pastOf, S, inwardOf, runs, Ready, OpenIf, LooksIf, Allows, Along}
+use Rattle.listing.specs.Inner.{Plain, pushOf, forbidden, Kept, Ruled, Open, Looks, Narrowed, Trims, part, fromOf, pastOf, S, inwardOf, runs, Ready, OpenIf, LooksIf, Allows, Along}
+use Rattle.listing.proofs.laws.Ruled.{ruled-kept}
+use Rattle.listing.proofs.laws.Turns.{inward-less}
+use Rattle.listing.proofs.laws.Trimming.{ruled-trimmed}
 use Rattle.listing.proofs.laws.Prefixes.{plain-length, push-prefix, push-plain}
 use Rattle.listing.proofs.laws.Course.{part-cons, below-from}
 use Rattle.listing.proofs.laws.Steps.{runs-nil, runs-append}
@@ -21,34 +24,57 @@ use Rattle.listing.proofs.laws.Steps.{runs-nil, runs-append}
 -- ---- what a look below cur tells of the prefix one longer
 
 module _ (b : List ℕ) (d : Row → Bool) (ns : Sizes) (room : List ℕ) (cur : Cursor) (levels fit : ℕ) (p st e : List ℕ) (s : Scanned)
-    (y : Ready ns room cur levels fit) (a : LooksIf b d (prefixOf cur) p st e levels s) (z : levels ≡ 0 → ⊥)
-    (v : ℕ) (h : v < getD ns (cur .len) 0) (next : Cursor) (n : next ≡ pushOf cur v) where
+    (y : Ready ns room cur levels fit) (z : 0 < levels) (v : ℕ) (a : Looks b d (prefixOf cur) p st e v s)
+    (h : v < getD ns (cur .len) 0) (next : Cursor) (n : next ≡ pushOf cur v) where
   longer : prefixOf next ≡ prefixOf cur ++ (v ∷ [])
   longer = ap (λ (u : Cursor). prefixOf u) n ∙ push-prefix cur v (y .plain) (omega (arith, y .deep, y .limited .short))
+
+  pub next-plain : Plain next
+  next-plain = rw n (push-plain cur v (y .plain) (omega (arith, y .deep, y .limited .short)))
+
+  pub next-ready : (t : Bool) (k : ℕ) → k ≡ inwardOf t levels → Ready ns room next k fit
+  next-ready t k f = record { cells = y .cells; plain = next-plain; deep = omega (arith, y .deep, inward-less t levels (λ x. omega arith), f, ap (λ (u : Cursor). u .len) n); limited = y .limited }
 
   pub next-small : v < 64
   next-small = omega (arith, y .limited .few (cur .len) (omega (arith, y .deep)))
 
   pub next-dead : (i : ℕ) → i ≡ v → (t : Bool) → t ≡ forbidden (s .allowed) i → t ≡ d (prefixOf next)
-  next-dead i e t u = u ∙ ap (forbidden (s .allowed)) e ∙ a .looks z .values v next-small ∙ ap d (sym longer)
+  next-dead i e t u = u ∙ ap (forbidden (s .allowed)) e ∙ a .values v next-small ∙ ap d (sym longer)
 
   pub next-ruled : d (prefixOf next) ≡ false → Ruled b d (prefixOf next) p st e (s .at) (s .rules)
-  next-ruled l = rw longer (a .looks z .next v (sym (ap d longer) ∙ l))
+  next-ruled l = rw longer (a .next v (omega arith) (sym (ap d longer) ∙ l))
+
+  -- with the run trimmed
+  module _ (at k : ℕ) (t : Trims b (s .at) (s .rules) (cur .len) v at k) where
+    trims : Trims b (s .at) (s .rules) (length (prefixOf cur)) v at k
+    trims = rw (plain-length cur (y .plain)) t
+
+    pub next-trimmed : d (prefixOf next) ≡ false → Ruled b d (prefixOf next) p st e at k
+    next-trimmed l = rw longer (ruled-trimmed b d (prefixOf cur) p st e (s .at) (s .rules) at k v v trims (omega arith) (a .next v (omega arith) (sym (ap d longer) ∙ l)))
+
+    -- the same look, for the values behind v
+    pub looks-trimmed : (q : List ℕ) → Kept st e p q → (u : ℕ) → v < u → (r : Scanned) → r ≡ record { allowed = s .allowed; at = at; rules = k } → Looks b d (prefixOf cur) q st e u r
+    looks-trimmed q o u m r f = rw f (record {
+      values = a .values;
+      stand = t .stand;
+      next = λ w i l. ruled-kept b d (prefixOf cur ++ (w ∷ [])) st e at k p q o (ruled-trimmed b d (prefixOf cur) p st e (s .at) (s .rules) at k v w trims (omega arith) (a .next w (omega arith) l));
+    })
 
   -- after its fronts are made shorter; it is gone into only if it is live
-  pub next-open : d (prefixOf next) ≡ false → (q f : List ℕ) → Narrowed b (prefixOf next) p st e q f → (m : ℕ) → length p ≤ m → Open b d (prefixOf next) q st f (s .at) (s .rules) m
-  next-open l q f w m o = record { ruled = w .ruled d (s .at) (s .rules) (next-ruled l); live = l; laid = w .laid; hints = omega (arith, w .kept .long) }
+  module _ (at k : ℕ) (g : d (prefixOf next) ≡ false → Ruled b d (prefixOf next) p st e at k) where
+    pub next-open : d (prefixOf next) ≡ false → (q f : List ℕ) → Narrowed b (prefixOf next) p st e q f → (m : ℕ) → length p ≤ m → Open b d (prefixOf next) q st f at k m
+    next-open l q f w m o = record { ruled = w .ruled d at k (g l); live = l; laid = w .laid; hints = omega (arith, w .kept .long) }
 
-  pub next-open-if : (i : ℕ) → i ≡ v → (t : Bool) → t ≡ forbidden (s .allowed) i → (k : ℕ) → k ≡ inwardOf t levels
-      → (q f : List ℕ) → Narrowed b (prefixOf next) p st e q f → (m : ℕ) → length p ≤ m → OpenIf b d (prefixOf next) q st f (s .at) (s .rules) m k
-  next-open-if i e t u k g q f w m o = record { opens = λ r. next-open (live r) q f w m o }
-    where
-      live : (k ≡ 0 → ⊥) → d (prefixOf next) ≡ false
-      live r = go t (next-dead i e t u) g
-        where
-          go : (c : Bool) → c ≡ d (prefixOf next) → k ≡ inwardOf c levels → d (prefixOf next) ≡ false
-          go true c o = absurd (r o)
-          go false c o = sym c
+    pub next-open-if : (i : ℕ) → i ≡ v → (t : Bool) → t ≡ forbidden (s .allowed) i → (j : ℕ) → j ≡ inwardOf t levels
+        → (q f : List ℕ) → Narrowed b (prefixOf next) p st e q f → (m : ℕ) → length p ≤ m → OpenIf b d (prefixOf next) q st f at k m j
+    next-open-if i x t u j c q f w m o = record { opens = λ r. next-open (live r) q f w m o }
+      where
+        live : (j ≡ 0 → ⊥) → d (prefixOf next) ≡ false
+        live r = go t (next-dead i x t u) c
+          where
+            go : (c : Bool) → c ≡ d (prefixOf next) → j ≡ inwardOf c levels → d (prefixOf next) ≡ false
+            go true c o = absurd (r o)
+            go false c o = sym c
 
 -- ---- the way along the cursor c, of which cur is the beginning
 
@@ -136,12 +162,15 @@ module _ (b : List ℕ) (d : Row → Bool) (ns : Sizes) (cur : Cursor) (levels f
   pub one-ready : (o : List ℕ) → Ready ns o cur levels fit → Ready ns o cur 1 fit
   one-ready o y = rw one at y
 
-  pub one-allows : (p st e : List ℕ) (s : Scanned) → LooksIf b d (prefixOf cur) p st e levels s → Allows d (prefixOf cur) (s .allowed)
-  one-allows p st e s a = record { is = λ v h. a .looks (λ z. omega arith) .values v h }
+  pub one-allows : (p st e : List ℕ) (from : ℕ) (s : Scanned) → LooksIf b d (prefixOf cur) p st e from levels s → Allows d (prefixOf cur) (s .allowed)
+  one-allows p st e from s a = record { is = λ v h. a .looks (λ z. omega arith) .values v h }
 
   pub one-below : (budget from : ℕ) (st r : Walk) (o o₁ : List ℕ) → _≡_ {A = S} (r, o₁) (runs d (length ns) fit budget (fromOf d (part ns (cur .len) 1) (prefixOf cur) from) (st, o))
       → _≡_ {A = S} (r, o₁) (runs d (length ns) fit budget (fromOf d (part ns (cur .len) levels) (prefixOf cur) from) (st, o))
   one-below budget from st r o o₁ h = rw one h
 
-pub looks-allows : (b : List ℕ) (d : Row → Bool) (x : Row) (p st e : List ℕ) (levels : ℕ) (s : Scanned) → (levels ≡ 0 → ⊥) → LooksIf b d x p st e levels s → Allows d x (s .allowed)
-looks-allows b d x p st e levels s z a = record { is = a .looks z .values }
+pub looks-values : (b : List ℕ) (d : Row → Bool) (x : Row) (p st e : List ℕ) (from : ℕ) (s : Scanned) → Looks b d x p st e from s → Allows d x (s .allowed)
+looks-values b d x p st e from s a = record { is = a .values }
+
+pub looks-allows : (b : List ℕ) (d : Row → Bool) (x : Row) (p st e : List ℕ) (from levels : ℕ) (s : Scanned) → (levels ≡ 0 → ⊥) → LooksIf b d x p st e from levels s → Allows d x (s .allowed)
+looks-allows b d x p st e from levels s z a = record { is = a .looks z .values }

@@ -1,5 +1,4 @@
--- Sifting: which entries go to the front: those whose last literal is on a setting, or those that a prefix leaves open; and the
--- fronts of the groups made shorter below a prefix.
+-- Sifting: the entries that a prefix leaves open go to the front; and the fronts of the groups made shorter below a prefix.
 use Prim.Native.Nat.{ℕ, _+_, _*_, _≤_, _<_}
 use native.Mathlib.Omega.{arith}
 use mathlib.Core.Path.{_≡_, refl, sym, ap, _∙_}
@@ -16,30 +15,26 @@ use Rattle.meaning.specs.Listing.{dead}
 use Rattle.meaning.proofs.Tests.{lt-or-le}
 use Rattle.listing.specs.declared.scan.Passed.{Passed}
 use Rattle.listing.specs.declared.scan.Passed.the-variants.{Holds, Left}
-use Rattle.listing.specs.Inner.{earlyOf, settleList, settleCount, Parted, Laid, Kept, Hit, Ruled, isOpen, wantedOf, Siftable, Narrowable, Narrowed}
+use Rattle.listing.specs.Inner.{earlyOf, settleList, settleCount, Parted, Laid, Kept, Hit, Ruled, isOpen, openOf, Siftable, Narrowable, Narrowed}
 use Rattle.listing.proofs.laws.Literals.{early-holds}
 use Rattle.listing.proofs.laws.Parting.{eq-or, Parting, parting-start, parting-on, parting-end}
 use Rattle.listing.proofs.laws.Ruled.{kept-same, kept-on, kept-wider, kept-stirred, ruled-kept}
 use Rattle.listing.proofs.laws.Looking.{never-dead}
 
--- ---- the ways out of `wanted`
+-- ---- the ways out of `leaves_open`
 
-module _ (b : List ℕ) (x : Row) (g p count : ℕ) (e : count ≡ getD b (p + 2) 0) where
-  pub wanted-last : g < 16 → (last : ℕ) → last ≡ getD b (p + 3 * count) 0 → eqb last g ≡ wantedOf b x g p
-  unfolding wantedOf
-  wanted-last h last f = rw (lt-ltb g 16 h, f, e)
+module _ (b : List ℕ) (x : Row) (p count : ℕ) (e : count ≡ getD b (p + 2) 0) where
+  pub open-holds : (w : Passed) → w ≡ earlyOf b x (p + 3) count → (q : ℕ) → w ≡ Holds q → false ≡ openOf b x p
+  unfolding openOf isOpen
+  open-holds w f q t = let u : earlyOf b x (p + 3) (getD b (p + 2) 0) ≡ Holds q = sym (ap (earlyOf b x (p + 3)) e) ∙ sym f ∙ t in rw u
 
-  pub wanted-holds : 16 ≤ g → (w : Passed) → w ≡ earlyOf b x (p + 3) count → (q : ℕ) → w ≡ Holds q → false ≡ wantedOf b x g p
-  unfolding wantedOf isOpen
-  wanted-holds h w f q t = let u : earlyOf b x (p + 3) (getD b (p + 2) 0) ≡ Holds q = sym (ap (earlyOf b x (p + 3)) e) ∙ sym f ∙ t in rw (le-ltb g 16 h, u)
-
-  pub wanted-left : 16 ≤ g → (w : Passed) → w ≡ earlyOf b x (p + 3) count → (q m : ℕ) → w ≡ Left q m → true ≡ wantedOf b x g p
-  unfolding wantedOf isOpen
-  wanted-left h w f q m t = let u : earlyOf b x (p + 3) (getD b (p + 2) 0) ≡ Left q m = sym (ap (earlyOf b x (p + 3)) e) ∙ sym f ∙ t in rw (le-ltb g 16 h, u)
+  pub open-left : (w : Passed) → w ≡ earlyOf b x (p + 3) count → (q m : ℕ) → w ≡ Left q m → true ≡ openOf b x p
+  unfolding openOf isOpen
+  open-left w f q m t = let u : earlyOf b x (p + 3) (getD b (p + 2) 0) ≡ Left q m = sym (ap (earlyOf b x (p + 3)) e) ∙ sym f ∙ t in rw u
 
 -- what the prefix does not leave open is met below it
-not-open : (b : List ℕ) (x : Row) (p : ℕ) → wantedOf b x 16 p ≡ false → (y : Row) → dead (ruleAt b p ∷ []) (x ++ y) ≡ false
-unfolding wantedOf isOpen
+not-open : (b : List ℕ) (x : Row) (p : ℕ) → openOf b x p ≡ false → (y : Row) → dead (ruleAt b p ∷ []) (x ++ y) ≡ false
+unfolding openOf isOpen
 not-open b x p h y = go (earlyOf b x (p + 3) (getD b (p + 2) 0)) refl h
   where
     go : (w : Passed) → earlyOf b x (p + 3) (getD b (p + 2) 0) ≡ w → isOpen w ≡ false → dead (ruleAt b p ∷ []) (x ++ y) ≡ false
@@ -86,16 +81,20 @@ pub record Narrowing (b : List ℕ) (x : Row) (p s e q f : List ℕ) (n m g : �
 pub narrowing-start : (b : List ℕ) (x : Row) (p s e : List ℕ) (n g : ℕ) → Narrowable b p s e n → Narrowing b x p s e p e n n g
 narrowing-start b x p s e n g a = record { long = refl; first = a .laid; able = a; done = narrowed-none b x p s e n a }
 
-module _ (b : List ℕ) (x : Row) (p s e q f : List ℕ) (n m g : ℕ) (y : Narrowing b x p s e q f n m g) (h : g < 16) where
-  pub narrowing-next : Siftable b q (getD s g 0) (getD f g 0) m
-  narrowing-next = record {
+module _ (b : List ℕ) (x : Row) (p s e q f : List ℕ) (n m g : ℕ) (y : Narrowing b x p s e q f n m g) (h : g < 16)
+    (lo hi : ℕ) (from : lo ≡ getD s g 0) (end : hi ≡ getD f g 0) where
+  pub narrowing-next : Siftable b q lo hi m
+  narrowing-next = rw (from, end) (record {
     low = y .able .laid .low g h;
     inside = omega (arith, y .able .laid .front g h, y .able .laid .inside g h);
     hints = y .able .hints;
     ends = λ i a c. y .able .ends g i h a c;
-  }
+  })
 
-  module _ (r : List ℕ) (k : ℕ) (t : Parted (wantedOf b x 16) q (getD s g 0) (getD f g 0) r k) (m′ : ℕ) (same : m′ ≡ m) where
+  module _ (r : List ℕ) (k : ℕ) (parted : Parted (openOf b x) q lo hi r k) (m′ : ℕ) (same : m′ ≡ m) where
+    t : Parted (openOf b x) q (getD s g 0) (getD f g 0) r k
+    t = rw (from, end) at parted
+
     here : getD (set f g k) g 0 ≡ k
     here = getD-set-same f g k 0 (omega (arith, y .able .laid .ends))
 

@@ -13,10 +13,9 @@ use Rattle.meaning.specs.Rules.{setting, met}
 use Rattle.meaning.specs.Bytes.{literalAt, literalsAt, endAt, rulesAt, placeAt, rulesIn}
 use Rattle.meaning.specs.Listing.{decided, dead}
 use Rattle.listing.specs.declared.cursor.Cursor.{Cursor}
-use Rattle.listing.specs.declared.walk.Walk.{Walk}
-use Rattle.listing.specs.Inner.{Stands, AllStand, Ruled, Open, Narrowable, Grouped, pastOf, S, runs, Ready, Along, Resumes}
+use Rattle.listing.specs.declared.steps.Walk.{Walk}
+use Rattle.listing.specs.Inner.{Stands, AllStand, Ruled, Open, Narrowable, Sorted, pastOf, S, runs, Ready, Along, Resumes}
 use Rattle.listing.specs.Cursors.{prefixOf, cursorOf}
-use Rattle.listing.specs.declared.groups.Groups.{Groups}
 use Rattle.listing.proofs.laws.Prefixes.{plain-cursor, plain-length, begins-at}
 use Rattle.listing.proofs.laws.Grouping.{grouped-ruled}
 use Rattle.listing.proofs.laws.Course.{part-all}
@@ -109,12 +108,14 @@ module _ (b : List ℕ) (rules : ℕ) (ns : Sizes) (room : List ℕ) (c : Cursor
       },
     )
 
-    pub start-open : dead (rulesAt b 7 rules) [] ≡ false → (n at : ℕ) (p : List ℕ) (g : Groups) → n ≤ rules → at ≡ placeAt b 7 n → Grouped b n p g → (m : ℕ) → length p ≤ m
-        → Narrowable b p (g .starts) (g .ends) m × Open b d (prefixOf root) p (g .starts) (g .ends) at (rules - n) m
-    start-open live n at p g h e a m l =
-        let r : Ruled b d [] p (g .starts) (g .ends) at (rules - n) = grouped-ruled b rules n p g d rules-here (y .stand) (y .few) h a at e in (
-          record { laid = a .laid; hints = l; ends = λ f i o k q. r .entries f i o k q .stands .inside },
-          rw root-prefix (record { ruled = r; live = rules-here [] ∙ live; laid = a .laid; hints = l }),
+    pub start-open : dead (rulesAt b 7 rules) [] ≡ false → (p t e : List ℕ) (at left : ℕ) → Sorted b rules p t e at left → (m : ℕ) → length p ≤ m
+        → Narrowable b p t e m × Open b d (prefixOf root) p t e at left m
+    start-open live p t e at left a m l =
+        let g = a .grouped in
+        let k : rules - (rules - left) ≡ left = omega (arith, a .few) in
+        let r : Ruled b d [] p t e at left = rw k at (grouped-ruled b rules (rules - left) p t e d rules-here (y .stand) (y .few) (omega arith) g at (a .next)) in (
+          record { laid = g .laid; hints = l; ends = λ f i o k q. r .entries f i o k q .stands .inside },
+          rw root-prefix (record { ruled = r; live = rules-here [] ∙ live; laid = g .laid; hints = l }),
         )
 
     pub start-on : (st w : Walk) (o : List ℕ) → _≡_ {A = S} (w, o) (resumeOf d ns c root (length ns) fit budget st room)

@@ -11,9 +11,9 @@ use borrow.Author.Tests.{lt-ltb, le-ltb, eq-eqb, ne-eqb}
 use Rattle.meaning.specs.Rows.{Row, Sizes}
 use Rattle.books.specs.Inner.{putAt}
 use Rattle.listing.specs.declared.cursor.Cursor.{Cursor}
-use Rattle.listing.specs.declared.walk.Walk.{Walk}
+use Rattle.listing.specs.declared.steps.Walk.{Walk}
 use Rattle.listing.specs.Cursors.{prefixOf}
-use Rattle.listing.specs.Inner.{S, walkOf, moveOf, goesOn, visitOf, runs, Fits, Ready}
+use Rattle.listing.specs.Inner.{S, walkOf, moveOf, goesOn, visitOf, runs, Ready}
 
 module _ (d : Row → Bool) (l fit budget : ℕ) where
   pub runs-nil : (s : S) → runs d l fit budget [] s ≡ s
@@ -48,25 +48,11 @@ shut-steps fit budget w h = rw (le-ltb (w .steps) budget h) (go (ltb (w .rows) f
 pub open-both : (fit budget : ℕ) (w : Walk) → w .rows < fit → w .steps < budget → goesOn fit budget w ≡ true
 open-both fit budget w h k = rw (lt-ltb (w .rows) fit h, lt-ltb (w .steps) budget k)
 
--- ---- what a visit asks: room for a row, a step, and a prefix
-
--- the row fits
-pub fits-row : (room : List ℕ) (w : Walk) (q : Cursor) (l fit budget : ℕ) → Fits room w q l fit budget → w .rows * l + l ≤ length room
-fits-row room w q l fit budget f =
-    let k : suc (w .rows) ≤ fit = f .row in
-    omega (arith, f .cells, mul-le-mul-right l k)
-
--- its three ways out
-module _ (l : ℕ) (d : Bool) (q : Cursor) (w : Walk) (o : List ℕ) (r : Walk) where
-  pub move-dead : d ≡ true → r ≡ walkOf q true (w .rows) (w .steps + 1) → _≡_ {A = S} (r, o) (moveOf l d q (w, o))
-  move-dead e f = rw (e, f)
-
-  pub move-row : d ≡ false → q .len ≡ l → (o′ : List ℕ) → o′ ≡ putAt o (w .rows * l) (prefixOf q) → r ≡ walkOf q false (w .rows + 1) (w .steps + 1)
-      → _≡_ {A = S} (r, o′) (moveOf l d q (w, o))
-  move-row e h o′ k f = rw (e, k, eq-eqb (q .len) l h, f)
-
-  pub move-short : d ≡ false → (q .len ≡ l → ⊥) → r ≡ walkOf q false (w .rows) (w .steps + 1) → _≡_ {A = S} (r, o) (moveOf l d q (w, o))
-  move-short e h f = rw (e, ne-eqb (q .len) l h, f)
+-- a visit of a prefix shorter than a row writes nothing
+pub move-short : (l : ℕ) (d : Bool) (q : Cursor) (w : Walk) (o : List ℕ) (r : Walk) → (q .len ≡ l → ⊥) → r ≡ walkOf q d (w .rows) (w .steps + 1)
+    → _≡_ {A = S} (r, o) (moveOf l d q (w, o))
+move-short l true q w o r h f = rw f
+move-short l false q w o r h f = rw (ne-eqb (q .len) l h, f)
 
 -- ---- what the walk below a prefix asks
 

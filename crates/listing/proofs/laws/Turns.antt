@@ -12,12 +12,12 @@ use Rattle.meaning.specs.Rows.{Row, Sizes}
 use Rattle.meaning.specs.Listing.{below}
 use Rattle.meaning.proofs.Tests.{case, is, isnt}
 use Rattle.listing.specs.declared.cursor.Cursor.{Cursor}
-use Rattle.listing.specs.declared.walk.Walk.{Walk}
+use Rattle.listing.specs.declared.steps.Walk.{Walk}
 use Rattle.listing.specs.Cursors.{prefixOf}
-use Rattle.listing.specs.Inner.{Plain, pushOf, forbidden, part, branchOf, fromOf, S, walkOf, moveOf, inwardOf, goesOn, visitOf, runs, Fits, Ready, leftAt, wholeOf, Going, Allows, skipOf, Skips}
+use Rattle.listing.specs.Inner.{Plain, pushOf, forbidden, part, branchOf, fromOf, S, walkOf, moveOf, inwardOf, goesOn, visitOf, runs, Ready, leftAt, wholeOf, Going, Allows, skipOf, Skips, Turns}
 use Rattle.listing.proofs.laws.Prefixes.{push-same, push-prefix, push-plain}
 use Rattle.listing.proofs.laws.Course.{part-cons, stopAt, below-from}
-use Rattle.listing.proofs.laws.Steps.{runs-nil, runs-cons, runs-append, runs-shut, shut-rows, shut-steps, open-both}
+use Rattle.listing.proofs.laws.Steps.{runs-nil, runs-cons, runs-append, runs-shut, shut-rows, shut-steps, open-both, move-short, ready-same}
 
 pub inward-less : (b : Bool) (k : ℕ) → (k ≡ 0 → ⊥) → inwardOf b k < k
 inward-less true k h = omega arith
@@ -98,17 +98,22 @@ module _ (d : Row → Bool) (ns : Sizes) (cur : Cursor) (levels fit budget : ℕ
           ∙ ap (λ (t : S). runs d (length ns) fit budget (fromOf d (part ns (cur .len + 1) (inwardOf (d x) levels)) x 0) t) m′ in
           record { long = lo₂ ∙ lo ∙ g .long; left = ap (λ (t : S). runs d (length ns) fit budget (leftAt d ns cur levels fit budget (getD ns (cur .len) 0) (v + 1)) t) q′ ∙ sym (turn (y .plain) c h i j) ∙ g .left }
 
-      -- what the calls of a turn ask
-      pub next-plain : Plain next
-      next-plain = rw n (push-plain cur v (y .plain) (omega (arith, y .deep, y .limited .short)))
+-- one turn of the loop: the visit of v, all below it, and the dead values behind it
+pub turns-on : (d : Row → Bool) (ns : Sizes) (cur : Cursor) (levels fit budget : ℕ) (w : Walk) (o : List ℕ) (v : ℕ) → Ready ns o cur levels fit → 0 < levels → cur .len + 1 < length ns
+    → v < getD ns (cur .len) 0 → w .rows < fit → w .steps < budget → (next : Cursor) → next ≡ pushOf cur v → (b : Bool) → b ≡ d (prefixOf next)
+    → (seen : Walk) → seen ≡ walkOf next b (w .rows) (w .steps + 1) → (k : ℕ) → k ≡ inwardOf b levels
+    → (r : Walk) (o₁ : List ℕ) → _≡_ {A = S} (r, o₁) (runs d (length ns) fit budget (fromOf d (part ns (next .len) k) (prefixOf next) 0) (seen, o)) → length o₁ ≡ length o
+    → (r₁ : Walk) (u : ℕ) → Skips d ns cur fit budget r (v + 1) r₁ u → Turns d ns cur levels fit budget w o v r₁ o₁ u
+turns-on d ns cur levels fit budget w o v y z short h i j next n b e seen f k g r o₁ q lo r₁ u t = record {
+  ahead = omega (arith, t .ahead);
+  on = λ from st o₀ go. t .on levels from st o₀ o₁ (going-on d ns cur levels fit budget from st o₀ o w v (ready-same ns o o₀ cur levels fit y (sym (go .long))) go (λ x. omega arith) next n h i j b e seen o moved refl k g r o₁ q lo);
+}
+  where
+    len : next .len ≡ cur .len + 1
+    len = ap (λ (c : Cursor). c .len) n
 
-      pub next-fits : w .rows < fit → w .steps < budget → Fits o w next (length ns) fit budget
-      next-fits i j = record { cells = rw (g .long) (y .cells); row = i; step = j; plain = next-plain }
-
-      pub next-ready : (o₁ : List ℕ) → length o₁ ≡ length o → (b : Bool) (k : ℕ) → k ≡ inwardOf b levels → Ready ns o₁ next k fit
-      next-ready o₁ lo b k f =
-          let less = inward-less b levels z in
-          record { cells = rw (lo ∙ g .long) (y .cells); plain = next-plain; deep = omega (arith, y .deep, f, next-len); limited = y .limited }
+    moved : _≡_ {A = S} (seen, o) (moveOf (length ns) b next (w, o))
+    moved = move-short (length ns) b next w o seen (λ x. omega (arith, len)) f
 
 -- ---- the last level: nothing is below its values
 

@@ -15,7 +15,7 @@ use Rattle.meaning.specs.Listing.{dead}
 use Rattle.meaning.proofs.Dead.{dead-append}
 use Rattle.listing.specs.declared.scan.Judged.{Judged}
 use Rattle.listing.specs.declared.scan.Span.{Span}
-use Rattle.listing.specs.Inner.{Stands, Judges, forbidden, Forbids, Window, Scans, widenOf}
+use Rattle.listing.specs.Inner.{AllStand, Stands, Judges, forbidden, Forbids, Window, Scans, widenOf}
 use Rattle.listing.proofs.laws.Standing.{place-add, place-next, rules-add, rules-split, stand-at, stand-part}
 
 -- ---- the ways out of `widen`
@@ -156,12 +156,15 @@ module _ (b : List ℕ) (d : Row → Bool) (x : Row) (from rules set : ℕ) (y :
       → Scans b d x set (record { allowed = allowed; at = w .at; rules = w .end - w .first })
   scanning-end allowed w at i s h =
       let e : i ≡ rules = omega (arith, s .inside) in
-      record { values = λ v k. let q : dead (rulesAt b from i) (x ++ (v ∷ [])) ≡ d (x ++ (v ∷ [])) = rw e (sym (y .tells (v ∷ []))) in s .values v k ∙ ap (λ (t : Bool). t || forbidden set v) q; window = λ v l. next v l (rw e at (s .spans)) }
+      record { values = λ v k. let q : dead (rulesAt b from i) (x ++ (v ∷ [])) ≡ d (x ++ (v ∷ [])) = rw e (sym (y .tells (v ∷ []))) in s .values v k ∙ ap (λ (t : Bool). t || forbidden set v) q; stand = standing (rw e at (s .spans)); window = λ v l. next v l (rw e at (s .spans)) }
     where
+      standing : Spans b from x set w rules → AllStand b (w .at) (w .end - w .first)
+      standing p = rw (p .place) (stand-part b from rules (w .first) (w .end - w .first) (y .stand) (omega (arith, p .ordered .0, p .ordered .1)))
+
       next : (v : ℕ) → d (x ++ (v ∷ [])) ≡ false → Spans b from x set w rules → Window b d (x ++ (v ∷ [])) (w .at) (w .end - w .first)
       next v l p = record {
         few = omega (arith, y .few, p .ordered .1);
-        stand = rw (p .place) (stand-part b from rules (w .first) (w .end - w .first) (y .stand) (omega (arith, p .ordered .0, p .ordered .1)));
+        stand = standing p;
         tells = λ z. rw (append-snoc x v z, p .place) (y .tells (v ∷ z) ∙ middle z);
       }
         where

@@ -1,9 +1,9 @@
 use borrow.Author.Needs.{needs}
 use native.Mathlib.Omega.{arith}
-use Rattle.listing.proofs.laws.Sifting.{Narrowing, narrowing-start, narrowing-next, narrowing-on, narrowing-end}
-use lib.ListN.{length}
 use Prim.Native.Nat.{_-_}
+use lib.ListN.{length}
 use Rattle.listing.specs.Cursors.{prefixOf}
+use Rattle.listing.proofs.laws.Sifting.{Narrowing, narrowing-start, narrowing-next, narrowing-on, narrowing-end}
 use Rattle.listing.proofs.groups.narrow.Statement.{statement}
 use Rattle.listing.proofs.groups.narrow.Tie as tie
 
@@ -16,26 +16,35 @@ abbrev μ-loop : tie.MeasureT-loop
 loop-holds : tie.Need-loop-holds Inv-loop μ-loop
 loop-holds c = narrowing-start _ _ _ _ _ _ _ (c .before .before .before .before .pre .2)
 
-mul-from : tie.Need-mul-from Inv-loop μ-loop
-mul-from c = search needs
+mul-entry : tie.Need-mul-entry Inv-loop μ-loop
+mul-entry c = search needs
 
-shared-slice-read-from : tie.Need-shared-slice-read-from Inv-loop μ-loop
-shared-slice-read-from c = omega (arith, c .before .before .loop .inv .able .laid .starts, c .before .before .before .before .before .before .before .pre .1)
+shared-slice-read-entry : tie.Need-shared-slice-read-entry Inv-loop μ-loop
+shared-slice-read-entry c = omega (arith, c .before .before .loop .inv .able .laid .starts, c .before .before .before .before .before .before .before .pre .1)
 
-mul-end : tie.Need-mul-end Inv-loop μ-loop
-mul-end c = search needs
+entry-requires : tie.Need-entry-requires Inv-loop μ-loop
+entry-requires c κs = search needs
 
-array-read-end : tie.Need-array-read-end Inv-loop μ-loop
-array-read-end c = omega (arith, c .before .before .before .before .before .before .before .pre .1)
+mul-entry-2 : tie.Need-mul-entry-2 Inv-loop μ-loop
+mul-entry-2 c = search needs
+
+array-read-entry : tie.Need-array-read-entry Inv-loop μ-loop
+array-read-entry c = omega (arith, c .before .before .before .before .before .before .before .before .pre .1)
+
+entry-requires-2 : tie.Need-entry-requires-2 Inv-loop μ-loop
+entry-requires-2 c κs = search needs
 
 sift-requires : tie.Need-sift-requires Inv-loop μ-loop
-sift-requires c κs = let s = c .before .before .before .before .before .before .before .before .before in (s .pre .0, narrowing-next _ _ _ _ _ _ _ _ _ _ (c .before .before .before .before .loop .inv) (omega (arith, s .pre .1, c .before .before .before .loop-test .taken)))
+sift-requires c κs = (c .before .before .before .before .before .before .before .before .before .before .before .pre .0, narrowing-next _ _ _ _ _ _ _ _ _ _ (c .before .before .before .before .before .before .loop .inv) (omega (arith, c .before .before .before .before .before .before .before .before .before .before .before .pre .1, c .before .before .before .before .before .loop-test .taken)) _ _ (c .before .before .before .entry .ensures .0) (c .before .before .entry2 .ensures .0))
+
+short-requires : tie.Need-short-requires Inv-loop μ-loop
+short-requires c κs = omega (arith, c .before .before .before .before .sift .ensures .upto, c .before .before .before .before .before .before .before .entry2 .ensures .1)
 
 mul-fronts : tie.Need-mul-fronts Inv-loop μ-loop
 mul-fronts c = search needs
 
 array-write-fronts : tie.Need-array-write-fronts Inv-loop μ-loop
-array-write-fronts c = omega (arith, c .before .before .before .before .before .before .before .before .before .before .before .before .before .before .pre .1, c .before .before .before .before .before .before .before .before .loop-test .taken)
+array-write-fronts c = omega (arith, c .before .before .before .before .before .before .before .before .before .before .before .before .before .before .before .before .before .pre .1, c .before .before .before .before .before .before .before .before .before .before .before .loop-test .taken)
 
 add-g : tie.Need-add-g Inv-loop μ-loop
 add-g c = search needs
@@ -44,7 +53,7 @@ loop-less : tie.Need-loop-less Inv-loop μ-loop
 loop-less c = search needs
 
 loop-again : tie.Need-loop-again Inv-loop μ-loop
-loop-again c = narrowing-on _ _ _ _ _ _ _ _ _ _ (c .before .before .before .before .before .before .before .before .before .loop .inv) (omega (arith, c .before .before .before .before .before .before .before .before .before .before .before .before .before .before .pre .1, c .before .before .before .before .before .before .before .before .loop-test .taken)) _ _ (c .before .before .before .before .sift .ensures) _ (c .before .before .before .before .sift .kept .1 .1 .0)
+loop-again c = rw (c .short .ensures) (narrowing-on _ _ _ _ _ _ _ _ _ _ (c .before .before .before .before .before .before .before .before .before .before .before .before .loop .inv) (omega (arith, c .before .before .before .before .before .before .before .before .before .before .before .before .before .before .before .before .before .pre .1, c .before .before .before .before .before .before .before .before .before .before .before .loop-test .taken)) _ _ (c .before .before .before .before .before .before .before .before .before .entry .ensures .0) (c .before .before .before .before .before .before .before .before .entry2 .ensures .0) _ _ (c .before .before .before .before .before .sift .ensures) _ (c .before .before .before .before .before .sift .kept .1 .1 .0))
 
 same-length : tie.Need-same-length Inv-loop μ-loop
 same-length c = omega (arith, c .before .loop .inv .done .kept .long)
@@ -62,11 +71,14 @@ narrow-spec =
     Inv-loop
     μ-loop
     loop-holds
-    mul-from
-    shared-slice-read-from
-    mul-end
-    array-read-end
+    mul-entry
+    shared-slice-read-entry
+    entry-requires
+    mul-entry-2
+    array-read-entry
+    entry-requires-2
     sift-requires
+    short-requires
     mul-fronts
     array-write-fronts
     add-g

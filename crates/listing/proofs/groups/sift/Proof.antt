@@ -1,18 +1,18 @@
 use borrow.Author.Needs.{needs}
 use native.Mathlib.Omega.{arith}
-use Rattle.listing.proofs.laws.Sifting.{Sifting, sifting-start, sifting-inside, sifting-ends, sifting-on, sifting-end}
-use Rattle.listing.specs.Inner.{wantedOf}
-use lib.ListN.{length}
 use Prim.Native.Nat.{_-_}
+use lib.ListN.{length}
 use Rattle.listing.specs.Cursors.{prefixOf}
+use Rattle.listing.specs.Inner.{openOf}
+use Rattle.listing.proofs.laws.Sifting.{Sifting, sifting-start, sifting-inside, sifting-ends, sifting-on, sifting-end}
 use Rattle.listing.proofs.groups.sift.Statement.{statement}
 use Rattle.listing.proofs.groups.sift.Tie as tie
 
 abbrev Inv-loop : tie.InvT-loop
-Inv-loop book places₀ hints₀ from end cur g i₀ k₀ places hints i k = Sifting (wantedOf book (prefixOf cur) g) places₀ from end (length hints₀) places (length hints) i k
+Inv-loop book places₀ hints₀ from end cur i₀ k₀ places hints i k = Sifting (openOf book (prefixOf cur)) places₀ from end (length hints₀) places (length hints) i k
 
 abbrev μ-loop : tie.MeasureT-loop
-μ-loop book places₀ hints₀ from end cur g i₀ k₀ places hints i k = end - i
+μ-loop book places₀ hints₀ from end cur i₀ k₀ places hints i k = end - i
 
 loop-holds : tie.Need-loop-holds Inv-loop μ-loop
 loop-holds c = search (sifting-start, arith)
@@ -26,8 +26,8 @@ slice-read-place c = search (sifting-inside, arith)
 place-requires : tie.Need-place-requires Inv-loop μ-loop
 place-requires c κs = search needs
 
-wanted-requires : tie.Need-wanted-requires Inv-loop μ-loop
-wanted-requires c κs = let s = c .before .before .before .before .before .before .before in (s .pre .0, sifting-ends _ _ _ _ _ _ (s .pre .1) _ _ _ _ (c .before .before .before .loop .inv) (c .before .before .loop-test .taken) _ (c .place .ensures))
+leaves-open-requires : tie.Need-leaves-open-requires Inv-loop μ-loop
+leaves-open-requires c κs = let s = c .before .before .before .before .before .before .before in (s .pre .0, sifting-ends _ _ _ _ _ _ (s .pre .1) _ _ _ _ (c .before .before .before .loop .inv) (c .before .before .loop-test .taken) _ (c .place .ensures))
 
 settle-requires : tie.Need-settle-requires Inv-loop μ-loop
 settle-requires c κs = let s = c .before .before .before .before .before .before .before .before .before .before in sifting-inside _ _ _ _ _ _ (s .pre .1) _ _ _ _ (c .before .before .before .before .before .before .loop .inv) (c .before .before .before .before .before .loop-test .taken)
@@ -60,7 +60,7 @@ sift-spec =
     mul-place
     slice-read-place
     place-requires
-    wanted-requires
+    leaves-open-requires
     settle-requires
     add-i
     loop-less

@@ -1,14 +1,15 @@
--- `resume`: along the cursor's own values; each way out is a lemma of specs/Resuming, and what stays true of the entries is in specs/Holding.
+-- `resume`: along the cursor's own values; each way out is a lemma of laws/Resuming, and what stays true of the entries is in laws/Holding.
 use borrow.Author.Needs.{needs}
 use native.Mathlib.Omega.{arith}
 use mathlib.Core.Path.{sym, _∙_}
+use lib.ListN.{getD}
 use Rattle.meaning.specs.Bytes.{rulesIn}
 use Rattle.meaning.specs.Listing.{dead}
 use Rattle.listing.specs.Cursors.{prefixOf}
 use Rattle.listing.proofs.laws.Ruled.{kept-same, kept-on}
 use Rattle.listing.proofs.laws.Steps.{ready-same}
-use Rattle.listing.proofs.laws.Holding.{able-kept, able-narrowed, kept-below, looks-kept}
-use Rattle.listing.proofs.laws.Resuming.{resume-here, resume-small, resume-next, resume-on, resume-skip, next-dead, next-open}
+use Rattle.listing.proofs.laws.Holding.{able-kept, able-narrowed, kept-below, looks-later}
+use Rattle.listing.proofs.laws.Resuming.{resume-here, resume-small, resume-next, resume-on, resume-skip, next-dead, next-ruled, next-open}
 use Prim.Native.Nat.{ℕ, _<_}
 use borrow.Fn.Kinds.{In}
 use borrow.Fn.PlainCycle.{Measures, is, falls, and}
@@ -20,7 +21,7 @@ use Rattle.listing.proofs.values.lacks.Reads as lacks-reads
 use Rattle.listing.proofs.walk.below.Reads as below-reads
 use Rattle.listing.proofs.walk.look_if.Reads as look-if-reads
 use Rattle.listing.proofs.walk.narrow_if.Reads as narrow-if-reads
-use Rattle.listing.proofs.walk.push.Reads as push-reads
+use Rattle.listing.proofs.steps.push.Reads as push-reads
 use Rattle.listing.proofs.walk.+resume.{statement}
 use Rattle.listing.proofs.walk.+resume.Tie.{close}
 
@@ -109,7 +110,7 @@ resume-below-requires-2 t c κs =
     let p = c .before .before .before .before .before .before .before .before .before .before .before .before .before .before .before .before .before .before .before .before .before .pre .1 in
     let d = dead (rulesIn (a .book .now)) in
     let s = c .before .before .before .before .before .before .before .before .before .before .before .before .look-if in
-    (p .0, able-kept (a .book .now) (a .places .now) (a .starts .now) (a .ends) (a .places .now) _ _ (p .2) (kept-same _ _ _) (s .kept .1 .1 .0), s .ensures)
+    (p .0, able-kept (a .book .now) (a .places .now) (a .starts .now) (a .ends) (a .places .now) _ _ (p .2) (kept-same _ _ _) (s .kept .1 .1 .0), looks-later (a .book .now) d (prefixOf (a .cur)) (a .places .now) (a .starts .now) (a .ends) (a .places .now) _ (a .levels) (s .result) (kept-same _ _ _) (s .ensures))
 
 resume-same-length-4 : (t : ℕ) → resume-lts.Need-same-length-4 (rd t) (resume-at t) resume.Post
 resume-same-length-4 t c = search needs
@@ -128,7 +129,7 @@ resume-returns-2 t c =
     let small = resume-small d (a .sizes .now) (a .c) (a .cur) (a .levels) (a .fit) (a .budget) (a .w) (a .room .now) (p .0) (p .1) (p .3 .live) (c .before .before .before .before .before .before .before .before .before .before .before .before .before .before .before .if1 .left) in
     let next = c .before .before .before .before .before .before .before .before .before .before .before .before .before .push in
     let s = c .before .before .before .before .before .before .before .before .before .before .before .before .before .before .before .before .before .before .before .look-if in
-    (resume-skip d (a .sizes .now) (a .c) (a .cur) (a .levels) (a .fit) (a .budget) (a .w) (a .room .now) (p .0) (p .1) (p .3 .live) (c .before .before .before .before .before .before .before .before .before .before .before .before .before .before .before .if1 .left) (next .result) (next .ensures) (sym (next-dead (a .book .now) d (a .sizes .now) (a .room .now) (a .cur) (a .levels) (a .fit) (a .places .now) (a .starts .now) (a .ends) (s .result) (p .0) (s .ensures) (λ z. omega (arith, small .3)) _ (small .1) (next .result) (next .ensures) (c .before .before .before .before .before .before .before .before .before .before .before .before .wide .result) (c .before .before .before .before .before .before .before .before .before .before .before .before .wide .ensures .0) (c .before .before .before .before .before .before .before .before .before .before .before .lacks .result) (c .before .before .before .before .before .before .before .before .before .before .before .lacks .ensures)) ∙ c .before .before .before .before .before .before .before .before .before .before .if2 .taken) (c .before .before .before .before .before .before .below2 .result) (c .before .before .before .before .before .before .below2 .last .1 .1 .0) (c .before .before .before .before .before .before .below2 .ensures .0), c .before .before .before .before .before .before .below2 .ensures .1)
+    (resume-skip d (a .sizes .now) (a .c) (a .cur) (a .levels) (a .fit) (a .budget) (a .w) (a .room .now) (p .0) (p .1) (p .3 .live) (c .before .before .before .before .before .before .before .before .before .before .before .before .before .before .before .if1 .left) (next .result) (next .ensures) (sym (next-dead (a .book .now) d (a .sizes .now) (a .room .now) (a .cur) (a .levels) (a .fit) (a .places .now) (a .starts .now) (a .ends) (s .result) (p .0) (small .3) (getD (a .c .values) (a .cur .len) 0) (looks-later (a .book .now) d (prefixOf (a .cur)) (a .places .now) (a .starts .now) (a .ends) (a .places .now) (getD (a .c .values) (a .cur .len) 0) (a .levels) (s .result) (kept-same _ _ _) (s .ensures) .looks (λ z. omega (arith, small .3))) (small .1) (next .result) (next .ensures) (c .before .before .before .before .before .before .before .before .before .before .before .before .wide .result) (c .before .before .before .before .before .before .before .before .before .before .before .before .wide .ensures .0) (c .before .before .before .before .before .before .before .before .before .before .before .lacks .result) (c .before .before .before .before .before .before .before .before .before .before .before .lacks .ensures)) ∙ c .before .before .before .before .before .before .before .before .before .before .if2 .taken) (c .before .before .before .before .before .before .below2 .result) (c .before .before .before .before .before .before .below2 .last .1 .1 .0) (c .before .before .before .before .before .before .below2 .ensures .0), c .before .before .before .before .before .before .below2 .ensures .1)
 
 resume-sub-narrow-if : (t : ℕ) → resume-lts.Need-sub-narrow-if (rd t) (resume-at t) resume.Post
 resume-sub-narrow-if t c =
@@ -167,8 +168,8 @@ resume-resume-requires t c κs =
     let s = c .before .before .before .before .before .before .before .before .before .before .before .before .before .before .before .before .before .before .before .look-if in
     let more = resume-next d (a .sizes .now) (a .c) (a .cur) (a .levels) (a .fit) (a .budget) (a .w) (a .room .now) (p .0) (p .1) (p .3 .live) (c .before .before .before .before .before .before .before .before .before .before .before .before .before .before .before .if1 .left) (next .result) (next .ensures) in
     let w = c .before .before .before .before .before .before .before .narrow-if in
-    let live = sym (next-dead (a .book .now) d (a .sizes .now) (a .room .now) (a .cur) (a .levels) (a .fit) (a .places .now) (a .starts .now) (a .ends) (s .result) (p .0) (s .ensures) (λ z. omega (arith, small .3)) _ (small .1) (next .result) (next .ensures) (c .before .before .before .before .before .before .before .before .before .before .before .before .wide .result) (c .before .before .before .before .before .before .before .before .before .before .before .before .wide .ensures .0) (c .before .before .before .before .before .before .before .before .before .before .before .lacks .result) (c .before .before .before .before .before .before .before .before .before .before .before .lacks .ensures)) ∙ c .before .before .before .before .before .before .before .before .before .before .if2 .left in
-    (omega (arith, small .3, c .before .before .before .before .before .before .before .before .before .before .before .before .before .before .before .before .before .before .before .before .before .before .before .before .before .before .before .before .pre .0), (more .0, more .1, able-narrowed (a .book .now) (prefixOf (next .result)) (a .places .now) (a .starts .now) (a .ends) (w .last .1 .0) (w .result) _ _ (p .2) (w .ensures) (w .kept .1 .1 .0 ∙ s .kept .1 .1 .0), next-open (a .book .now) d (a .sizes .now) (a .room .now) (a .cur) (a .levels) (a .fit) (a .places .now) (a .starts .now) (a .ends) (s .result) (p .0) (s .ensures) (λ z. omega (arith, small .3)) _ (small .1) (next .result) (next .ensures) live (w .last .1 .0) (w .result) (w .ensures) _ (omega (arith, p .2 .hints, w .kept .1 .1 .0, s .kept .1 .1 .0))))
+    let live = sym (next-dead (a .book .now) d (a .sizes .now) (a .room .now) (a .cur) (a .levels) (a .fit) (a .places .now) (a .starts .now) (a .ends) (s .result) (p .0) (small .3) (getD (a .c .values) (a .cur .len) 0) (looks-later (a .book .now) d (prefixOf (a .cur)) (a .places .now) (a .starts .now) (a .ends) (a .places .now) (getD (a .c .values) (a .cur .len) 0) (a .levels) (s .result) (kept-same _ _ _) (s .ensures) .looks (λ z. omega (arith, small .3))) (small .1) (next .result) (next .ensures) (c .before .before .before .before .before .before .before .before .before .before .before .before .wide .result) (c .before .before .before .before .before .before .before .before .before .before .before .before .wide .ensures .0) (c .before .before .before .before .before .before .before .before .before .before .before .lacks .result) (c .before .before .before .before .before .before .before .before .before .before .before .lacks .ensures)) ∙ c .before .before .before .before .before .before .before .before .before .before .if2 .left in
+    (omega (arith, small .3, c .before .before .before .before .before .before .before .before .before .before .before .before .before .before .before .before .before .before .before .before .before .before .before .before .before .before .before .before .pre .0), (more .0, more .1, able-narrowed (a .book .now) (prefixOf (next .result)) (a .places .now) (a .starts .now) (a .ends) (w .last .1 .0) (w .result) _ _ (p .2) (w .ensures) (w .kept .1 .1 .0 ∙ s .kept .1 .1 .0), next-open (a .book .now) d (a .sizes .now) (a .room .now) (a .cur) (a .levels) (a .fit) (a .places .now) (a .starts .now) (a .ends) (s .result) (p .0) (small .3) (getD (a .c .values) (a .cur .len) 0) (looks-later (a .book .now) d (prefixOf (a .cur)) (a .places .now) (a .starts .now) (a .ends) (a .places .now) (getD (a .c .values) (a .cur .len) 0) (a .levels) (s .result) (kept-same _ _ _) (s .ensures) .looks (λ z. omega (arith, small .3))) (small .1) (next .result) (next .ensures) (s .result .at) (s .result .rules) (next-ruled (a .book .now) d (a .sizes .now) (a .room .now) (a .cur) (a .levels) (a .fit) (a .places .now) (a .starts .now) (a .ends) (s .result) (p .0) (small .3) (getD (a .c .values) (a .cur .len) 0) (looks-later (a .book .now) d (prefixOf (a .cur)) (a .places .now) (a .starts .now) (a .ends) (a .places .now) (getD (a .c .values) (a .cur .len) 0) (a .levels) (s .result) (kept-same _ _ _) (s .ensures) .looks (λ z. omega (arith, small .3))) (small .1) (next .result) (next .ensures)) live (w .last .1 .0) (w .result) (w .ensures) _ (omega (arith, p .2 .hints, w .kept .1 .1 .0, s .kept .1 .1 .0))))
 
 resume-add-rest : (t : ℕ) → resume-lts.Need-add-rest (rd t) (resume-at t) resume.Post
 resume-add-rest t c =
@@ -188,7 +189,7 @@ resume-below-requires-3 t c κs =
     let w = c .before .before .before .before .before .before .before .before .before .before .before .before .before .before .before .before .before .narrow-if in
     let r = c .before .before .before .before .before .before .before .before .before .resume in
     let k = kept-below (a .book .now) (prefixOf (next .result)) (a .starts .now) (a .ends) (a .places .now) (w .last .1 .0) (w .result) (r .last .1 .1 .1 .0) _ (p .2) (w .ensures) (r .ensures .1) in
-    (ready-same (a .sizes .now) (a .room .now) (r .last .1 .1 .0) (a .cur) (a .levels) (a .fit) (p .0) (r .kept .1 .1 .0), able-kept (a .book .now) (a .places .now) (a .starts .now) (a .ends) (r .last .1 .1 .1 .0) _ _ (p .2) k (r .kept .1 .1 .1 .1 .0 ∙ w .kept .1 .1 .0 ∙ s .kept .1 .1 .0), looks-kept (a .book .now) d (prefixOf (a .cur)) (a .places .now) (a .starts .now) (a .ends) (r .last .1 .1 .1 .0) (a .levels) (s .result) k (s .ensures))
+    (ready-same (a .sizes .now) (a .room .now) (r .last .1 .1 .0) (a .cur) (a .levels) (a .fit) (p .0) (r .kept .1 .1 .0), able-kept (a .book .now) (a .places .now) (a .starts .now) (a .ends) (r .last .1 .1 .1 .0) _ _ (p .2) k (r .kept .1 .1 .1 .1 .0 ∙ w .kept .1 .1 .0 ∙ s .kept .1 .1 .0), looks-later (a .book .now) d (prefixOf (a .cur)) (a .places .now) (a .starts .now) (a .ends) (r .last .1 .1 .1 .0) _ (a .levels) (s .result) k (s .ensures))
 
 resume-same-length-7 : (t : ℕ) → resume-lts.Need-same-length-7 (rd t) (resume-at t) resume.Post
 resume-same-length-7 t c = search needs
