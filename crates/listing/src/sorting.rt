@@ -101,15 +101,12 @@ fn ladder(counts: [u16; 16]) -> Bounds
     Bounds { starts, ends }
 }
 
-// The space for the groups, by a look at the first 4,096 rules. None where the budget is small, or where nearly every rule has literals on
-// all settings before its last, as a general book's have: there what a prefix leaves open stands together, and a run is as quick.
-pub fn survey(book: &[u8], rules: usize, budget: usize) -> Bounds
+// The space for the groups, by a look at the first 4,096 rules. None where nearly every rule has literals on all settings before its
+// last, as a general book's have: there what a prefix leaves open stands together, and a run is as quick.
+pub fn survey(book: &[u8], rules: usize) -> Bounds
     requires { ⌜ AllStand (now book) 7 rules ⌝ }
     ensures { λ r. ⌜ Ladder (r .starts) (r .ends) ⌝ }
 {
-    if budget < 16 {
-        return nothing();
-    }
     let most = least(rules, 4096);
     let mut counts = [0u16; 16];
     let mut gaps: u16 = 0;

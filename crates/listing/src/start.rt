@@ -112,7 +112,7 @@ fn by_groups(
     )
 }
 
-// All that is visited after c, from a page's start on.
+// All that is visited after c, from a page's start on. For a few steps sorting does not pay.
 pub fn start(
     book: &[u8],
     rules: usize,
@@ -134,7 +134,10 @@ pub fn start(
     if hopeless(book, rules) {
         return w;
     }
-    let bounds = survey(book, rules, budget);
+    if budget < 16 {
+        return by_run(book, rules, sizes, room, w, c, fit, budget);
+    }
+    let bounds = survey(book, rules);
     let starts = bounds.starts;
     if starts[16] == 0 {
         return by_run(book, rules, sizes, room, w, c, fit, budget);

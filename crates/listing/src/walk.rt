@@ -56,7 +56,7 @@ fn look_if(
     look(book, places, hints, starts, ends, at, rules, q)
 }
 
-// The fronts below q, made shorter on the first three levels, if any level is gone into.
+// The fronts below q, made shorter on the first three levels, if any level is gone into and any rule is entered.
 fn narrow_if(
     book: &[u8],
     places: &mut [u32],
@@ -74,6 +74,9 @@ fn narrow_if(
         return ends;
     }
     if 3 < q.len {
+        return ends;
+    }
+    if starts[16] == 0 {
         return ends;
     }
     narrow(book, places, hints, starts, ends, q, l)
@@ -312,6 +315,9 @@ pub fn resume(
         fit,
         budget,
     );
+    if budget <= walk.steps {
+        return walk;
+    }
     let rest = v + 1;
     below(
         book,

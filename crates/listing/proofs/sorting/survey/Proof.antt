@@ -6,16 +6,10 @@ use Rattle.listing.proofs.sorting.survey.Statement.{statement}
 use Rattle.listing.proofs.sorting.survey.Tie as tie
 
 abbrev Inv-loop : tie.InvT-loop
-Inv-loop book rules budget most counts₀ gaps₀ at₀ i₀ counts gaps at i = Placed book most at i
+Inv-loop book rules most counts₀ gaps₀ at₀ i₀ counts gaps at i = Placed book most at i
 
 abbrev μ-loop : tie.MeasureT-loop
-μ-loop book rules budget most counts₀ gaps₀ at₀ i₀ counts gaps at i = most - i
-
-nothing-requires : tie.Need-nothing-requires Inv-loop μ-loop
-nothing-requires c κs = search needs
-
-returns : tie.Need-returns Inv-loop μ-loop
-returns c = search needs
+μ-loop book rules most counts₀ gaps₀ at₀ i₀ counts gaps at i = most - i
 
 least-requires : tie.Need-least-requires Inv-loop μ-loop
 least-requires c κs = search needs
@@ -24,22 +18,22 @@ loop-holds : tie.Need-loop-holds Inv-loop μ-loop
 loop-holds c = placed-start _ _
 
 add-wide : tie.Need-add-wide Inv-loop μ-loop
-add-wide c = omega (arith, placed-inside _ _ _ _ (c .before .loop .inv) _ (c .before .before .before .before .before .pre) (c .before .before .least .ensures .0) (c .loop-test .taken))
+add-wide c = omega (arith, placed-inside _ _ _ _ (c .before .loop .inv) _ (c .before .before .before .before .pre) (c .before .before .least .ensures .0) (c .loop-test .taken))
 
 shared-slice-read-wide : tie.Need-shared-slice-read-wide Inv-loop μ-loop
-shared-slice-read-wide c = omega (arith, placed-inside _ _ _ _ (c .before .before .loop .inv) _ (c .before .before .before .before .before .before .pre) (c .before .before .before .least .ensures .0) (c .before .loop-test .taken))
+shared-slice-read-wide c = omega (arith, placed-inside _ _ _ _ (c .before .before .loop .inv) _ (c .before .before .before .before .before .pre) (c .before .before .before .least .ensures .0) (c .before .loop-test .taken))
 
 wide-requires : tie.Need-wide-requires Inv-loop μ-loop
 wide-requires c κs = search needs
 
 mul-wide : tie.Need-mul-wide Inv-loop μ-loop
-mul-wide c = omega (arith, c .wide .ensures .0, placed-inside _ _ _ _ (c .before .before .before .loop .inv) _ (c .before .before .before .before .before .before .before .pre) (c .before .before .before .before .least .ensures .0) (c .before .before .loop-test .taken))
+mul-wide c = omega (arith, c .wide .ensures .0, placed-inside _ _ _ _ (c .before .before .before .loop .inv) _ (c .before .before .before .before .before .before .pre) (c .before .before .before .before .least .ensures .0) (c .before .before .loop-test .taken))
 
 add-wide-2 : tie.Need-add-wide-2 Inv-loop μ-loop
-add-wide-2 c = omega (arith, c .wide .ensures .0, placed-inside _ _ _ _ (c .before .before .before .loop .inv) _ (c .before .before .before .before .before .before .before .pre) (c .before .before .before .before .least .ensures .0) (c .before .before .loop-test .taken))
+add-wide-2 c = omega (arith, c .wide .ensures .0, placed-inside _ _ _ _ (c .before .before .before .loop .inv) _ (c .before .before .before .before .before .before .pre) (c .before .before .before .before .least .ensures .0) (c .before .before .loop-test .taken))
 
 shared-slice-read-wide-2 : tie.Need-shared-slice-read-wide-2 Inv-loop μ-loop
-shared-slice-read-wide-2 c = omega (arith, c .before .wide .ensures .0, placed-inside _ _ _ _ (c .before .before .before .before .loop .inv) _ (c .before .before .before .before .before .before .before .before .pre) (c .before .before .before .before .before .least .ensures .0) (c .before .before .before .loop-test .taken))
+shared-slice-read-wide-2 c = omega (arith, c .before .wide .ensures .0, placed-inside _ _ _ _ (c .before .before .before .before .loop .inv) _ (c .before .before .before .before .before .before .before .pre) (c .before .before .before .before .before .least .ensures .0) (c .before .before .before .loop-test .taken))
 
 wide-requires-2 : tie.Need-wide-requires-2 Inv-loop μ-loop
 wide-requires-2 c κs = search needs
@@ -66,13 +60,13 @@ gaps-with-requires : tie.Need-gaps-with-requires Inv-loop μ-loop
 gaps-with-requires c κs = search needs
 
 add-at : tie.Need-add-at Inv-loop μ-loop
-add-at c = omega (arith, c .before .before .before .before .before .wide .ensures .0, placed-inside _ _ _ _ (c .before .before .before .before .before .before .before .before .loop .inv) _ (c .before .before .before .before .before .before .before .before .before .before .before .before .pre) (c .before .before .before .before .before .before .before .before .before .least .ensures .0) (c .before .before .before .before .before .before .before .loop-test .taken))
+add-at c = omega (arith, c .before .before .before .before .before .wide .ensures .0, placed-inside _ _ _ _ (c .before .before .before .before .before .before .before .before .loop .inv) _ (c .before .before .before .before .before .before .before .before .before .before .before .pre) (c .before .before .before .before .before .before .before .before .before .least .ensures .0) (c .before .before .before .before .before .before .before .loop-test .taken))
 
 mul-at : tie.Need-mul-at Inv-loop μ-loop
-mul-at c = omega (arith, c .before .before .before .before .before .wide .ensures .0, placed-inside _ _ _ _ (c .before .before .before .before .before .before .before .before .loop .inv) _ (c .before .before .before .before .before .before .before .before .before .before .before .before .pre) (c .before .before .before .before .before .before .before .before .before .least .ensures .0) (c .before .before .before .before .before .before .before .loop-test .taken))
+mul-at c = omega (arith, c .before .before .before .before .before .wide .ensures .0, placed-inside _ _ _ _ (c .before .before .before .before .before .before .before .before .loop .inv) _ (c .before .before .before .before .before .before .before .before .before .before .before .pre) (c .before .before .before .before .before .before .before .before .before .least .ensures .0) (c .before .before .before .before .before .before .before .loop-test .taken))
 
 add-at-2 : tie.Need-add-at-2 Inv-loop μ-loop
-add-at-2 c = omega (arith, c .before .before .before .before .before .wide .ensures .0, placed-inside _ _ _ _ (c .before .before .before .before .before .before .before .before .loop .inv) _ (c .before .before .before .before .before .before .before .before .before .before .before .before .pre) (c .before .before .before .before .before .before .before .before .before .least .ensures .0) (c .before .before .before .before .before .before .before .loop-test .taken))
+add-at-2 c = omega (arith, c .before .before .before .before .before .wide .ensures .0, placed-inside _ _ _ _ (c .before .before .before .before .before .before .before .before .loop .inv) _ (c .before .before .before .before .before .before .before .before .before .before .before .pre) (c .before .before .before .before .before .before .before .before .before .least .ensures .0) (c .before .before .before .before .before .before .before .loop-test .taken))
 
 add-i : tie.Need-add-i Inv-loop μ-loop
 add-i c = search needs
@@ -86,17 +80,17 @@ loop-again c = placed-on _ _ _ _ (c .before .before .before .before .before .bef
 entry-requires : tie.Need-entry-requires Inv-loop μ-loop
 entry-requires c κs = search needs
 
-nothing-requires-2 : tie.Need-nothing-requires-2 Inv-loop μ-loop
-nothing-requires-2 c κs = search needs
+nothing-requires : tie.Need-nothing-requires Inv-loop μ-loop
+nothing-requires c κs = search needs
 
-returns-2 : tie.Need-returns-2 Inv-loop μ-loop
-returns-2 c = search needs
+returns : tie.Need-returns Inv-loop μ-loop
+returns c = search needs
 
 ladder-requires : tie.Need-ladder-requires Inv-loop μ-loop
 ladder-requires c κs = search needs
 
-returns-3 : tie.Need-returns-3 Inv-loop μ-loop
-returns-3 c = search needs
+returns-2 : tie.Need-returns-2 Inv-loop μ-loop
+returns-2 c = search needs
 
 pub survey-spec : {M : Type 1} → statement M
 survey-spec =
@@ -104,8 +98,6 @@ survey-spec =
     (tie.spec
     Inv-loop
     μ-loop
-    nothing-requires
-    returns
     least-requires
     loop-holds
     add-wide
@@ -129,7 +121,7 @@ survey-spec =
     loop-less
     loop-again
     entry-requires
-    nothing-requires-2
-    returns-2
+    nothing-requires
+    returns
     ladder-requires
-    returns-3)
+    returns-2)
