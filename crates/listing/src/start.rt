@@ -7,9 +7,10 @@ use crate::sorting::survey;
 use crate::steps::Walk;
 use crate::walk::resume;
 ghost use mathlib.Core.Path.{_≡_};
-ghost use mathlib.Core.Bool.{false};
+ghost use mathlib.Core.Bool.{false, _||_};
 ghost use mathlib.Core.List.{[]};
 ghost use Prim.Native.Nat.{_≤_};
+ghost use lib.Dec.{ltb};
 ghost use lib.ListN.{length};
 ghost use Rattle.meaning.specs.Bytes.{rulesIn, rulesAt};
 ghost use Rattle.meaning.specs.Listing.{dead};
@@ -112,7 +113,17 @@ fn by_groups(
     )
 }
 
-// All that is visited after c, from a page's start on. For a few steps sorting does not pay.
+// Is there so little to do that sorting does not pay?
+fn little(rules: usize, budget: usize) -> bool
+    ensures { λ r. ⌜ r ≡ ltb budget 8 || ltb rules 32 ⌝ }
+{
+    if budget < 8 {
+        return true;
+    }
+    rules < 32
+}
+
+// All that is visited after c, from a page's start on: by groups where it pays.
 pub fn start(
     book: &[u8],
     rules: usize,
@@ -134,7 +145,7 @@ pub fn start(
     if hopeless(book, rules) {
         return w;
     }
-    if budget < 16 {
+    if little(rules, budget) {
         return by_run(book, rules, sizes, room, w, c, fit, budget);
     }
     let bounds = survey(book, rules);

@@ -3,11 +3,12 @@ use Prim.Native.Nat.{ℕ, zero, suc, _+_, _*_, _-_, _≤_, _<_}
 use native.Mathlib.Nat.{sub-zero}
 use native.Mathlib.Omega.{arith}
 use mathlib.Core.Path.{_≡_, sym, ap, _∙_}
-use mathlib.Core.Bool.{Bool, true, false}
+use mathlib.Core.Bool.{Bool, true, false, _||_}
 use mathlib.Core.List.{List, []}
+use lib.Dec.{ltb}
 use lib.ListN.{length, getD, take}
 use lib.Seq.{getD-take}
-use borrow.Author.Tests.{le-ltb}
+use borrow.Author.Tests.{lt-ltb, le-ltb}
 use Rattle.meaning.specs.Rows.{Row, Sizes}
 use Rattle.meaning.specs.Rules.{setting, met}
 use Rattle.meaning.specs.Bytes.{literalAt, literalsAt, endAt, rulesAt, placeAt, rulesIn}
@@ -68,6 +69,14 @@ module _ (b : List ℕ) (rules at i : ℕ) (y : Seeking b rules at i) where
           let p : at + 3 + 3 * count ≡ endAt b at = omega arith in
           let k : rules - i - 1 ≡ rules - (i + 1) = omega arith in
           rw p (record { inside = omega arith; stand = seeking-head .1; left = y .left ∙ live-root b at (rules - i) (omega arith) count e z ∙ rw k })
+
+-- ---- the ways out of `little`
+
+pub little-steps : (rules budget : ℕ) → budget < 8 → true ≡ ltb budget 8 || ltb rules 32
+little-steps rules budget h = rw (lt-ltb budget 8 h)
+
+pub little-rules : (rules budget : ℕ) → 8 ≤ budget → ltb rules 32 ≡ ltb budget 8 || ltb rules 32
+little-rules rules budget h = rw (le-ltb budget 8 h)
 
 -- ---- the start
 

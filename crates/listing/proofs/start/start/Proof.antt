@@ -9,8 +9,11 @@ hopeless-requires c κs = search needs
 returns : tie.Need-returns
 returns c = let s = c .before .before .before .before .before in let a = s .args in start-dead (a .book .now) (a .rules) (a .sizes .now) (a .room .now) (a .c) (a .fit) (a .budget) (s .pre) (c .before .hopeless .result) (c .before .hopeless .ensures) (c .if1 .taken)
 
+little-requires : tie.Need-little-requires
+little-requires c κs = search needs
+
 by-run-requires : tie.Need-by-run-requires
-by-run-requires c κs = let s = c .before .before .before .before .before .before .before in let a = s .args in (s .pre, start-live (a .book .now) (a .rules) (a .sizes .now) (a .room .now) (a .c) (a .fit) (a .budget) (s .pre) (c .before .before .before .hopeless .result) (c .before .before .before .hopeless .ensures) (c .before .before .if1 .left))
+by-run-requires c κs = let s = c .before .before .before .before .before .before .before .before in let a = s .args in (s .pre, start-live (a .book .now) (a .rules) (a .sizes .now) (a .room .now) (a .c) (a .fit) (a .budget) (s .pre) (c .before .before .before .before .hopeless .result) (c .before .before .before .before .hopeless .ensures) (c .before .before .before .if1 .left))
 
 same-length : tie.Need-same-length
 same-length c = search needs
@@ -25,7 +28,7 @@ array-read-if3 : tie.Need-array-read-if3
 array-read-if3 c = search needs
 
 by-run-requires-2 : tie.Need-by-run-requires-2
-by-run-requires-2 c κs = let s = c .before .before .before .before .before .before .before .before .before .before in let a = s .args in (s .pre, start-live (a .book .now) (a .rules) (a .sizes .now) (a .room .now) (a .c) (a .fit) (a .budget) (s .pre) (c .before .before .before .before .before .before .hopeless .result) (c .before .before .before .before .before .before .hopeless .ensures) (c .before .before .before .before .before .if1 .left))
+by-run-requires-2 c κs = let s = c .before .before .before .before .before .before .before .before .before .before .before in let a = s .args in (s .pre, start-live (a .book .now) (a .rules) (a .sizes .now) (a .room .now) (a .c) (a .fit) (a .budget) (s .pre) (c .before .before .before .before .before .before .before .hopeless .result) (c .before .before .before .before .before .before .before .hopeless .ensures) (c .before .before .before .before .before .before .if1 .left))
 
 same-length-2 : tie.Need-same-length-2
 same-length-2 c = search needs
@@ -34,7 +37,7 @@ returns-3 : tie.Need-returns-3
 returns-3 c = search needs
 
 by-groups-requires : tie.Need-by-groups-requires
-by-groups-requires c κs = let s = c .before .before .before .before .before .before .before .before .before .before in let a = s .args in (s .pre, start-live (a .book .now) (a .rules) (a .sizes .now) (a .room .now) (a .c) (a .fit) (a .budget) (s .pre) (c .before .before .before .before .before .before .hopeless .result) (c .before .before .before .before .before .before .hopeless .ensures) (c .before .before .before .before .before .if1 .left), c .before .before .before .survey .ensures)
+by-groups-requires c κs = let s = c .before .before .before .before .before .before .before .before .before .before .before in let a = s .args in (s .pre, start-live (a .book .now) (a .rules) (a .sizes .now) (a .room .now) (a .c) (a .fit) (a .budget) (s .pre) (c .before .before .before .before .before .before .before .hopeless .result) (c .before .before .before .before .before .before .before .hopeless .ensures) (c .before .before .before .before .before .before .if1 .left), c .before .before .before .survey .ensures)
 
 same-length-3 : tie.Need-same-length-3
 same-length-3 c = search needs
@@ -48,6 +51,7 @@ start-spec =
     (tie.spec
     hopeless-requires
     returns
+    little-requires
     by-run-requires
     same-length
     returns-2
