@@ -67,6 +67,7 @@ pub fn conditions() {
         "{cores} cores; each contender uses one.
 Best of at least {LEAST_TURNS} turns, the contenders alternating; of fewer, marked *, where they last above {MOST_TIME} s in all.
 Rooms are lent: written to before the first turn, not cleared between turns. What a contender allocates itself is timed.
+In a timed turn a listing is counted, not looked at: that the contenders list the same is seen before.
 A ratio is the contender's time divided by the library's: above 1 the library is the faster one."
     );
 }
