@@ -101,7 +101,7 @@ fn listing(name: &str, book: Book<&[u8]>) {
     ]);
     let search = Best {
         time: search_time,
-        turns: gecode.turns,
+        ..gecode
     };
     let input = format!("{name}: {rows} rows");
     line(&input, library, &[second, gecode, search]);

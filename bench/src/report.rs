@@ -74,28 +74,35 @@ A ratio is the contender's time divided by the library's: above 1 the library is
 
 /// Begins a part of the table: what is measured, and the contenders beside the library.
 pub fn heading(call: &str, contenders: &[&str]) {
-    print!("\n{call:<52}{:>12}", "library");
+    print!("\n{call:<48}{:>12}", "library");
     for contender in contenders {
-        print!("{contender:>14}{:>8}", "ratio");
+        print!("{contender:>12}{:>8}", "ratio");
     }
     println!();
 }
 
 /// One line: the library's time, then each contender's and its ratio.
 pub fn line(input: &str, library: Best, contenders: &[Best]) {
-    print!("  {input:<50}{:>12}", written(library));
+    print!("  {input:<46}{:>12}", written(library));
     for contender in contenders {
         let ratio = contender.time / library.time;
-        print!("{:>14}{ratio:>8.2}", written(*contender));
+        print!("{:>12}{ratio:>8.2}", written(*contender));
     }
     println!();
 }
 
+/// A time with three significant digits.
 fn written(best: Best) -> String {
     let few = if best.turns < LEAST_TURNS { "*" } else { "" };
-    match best.time {
-        time if time < 1e-3 => format!("{:.2} us{few}", time * 1e6),
-        time if time < 1.0 => format!("{:.2} ms{few}", time * 1e3),
-        time => format!("{time:.2} s{few}"),
-    }
+    let (amount, unit) = [(1e9, "ns"), (1e6, "us"), (1e3, "ms")]
+        .map(|(scale, unit)| (best.time * scale, unit))
+        .into_iter()
+        .find(|(amount, _)| *amount < 999.5)
+        .unwrap_or((best.time, "s"));
+    let places = match amount {
+        amount if amount < 9.995 => 2,
+        amount if amount < 99.95 => 1,
+        _ => 0,
+    };
+    format!("{amount:.places$} {unit}{few}")
 }
