@@ -1,8 +1,9 @@
-//! The library measured beside the second program and, for listings, Gecode.
+//! The library measured beside the second program and, for listings, Gecode and clasp.
 //!
 //! Every line is one race on one input, and what the contenders answer must agree.
 
 mod chance;
+mod clasp;
 mod gecode;
 mod inputs;
 mod listing;
@@ -32,7 +33,8 @@ fn main() {
         .map(|(table, book)| (table.name, book.view()))
         .collect();
     books.push(("typed, 6 rules, n 10 l 6", typed.view()));
-    heading("listing whole", &["second", "Gecode", "its search"]);
+    let contenders = ["second", "Gecode", "its search", "clasp", "it reports"];
+    heading("listing whole", &contenders);
     books.iter().for_each(|(name, book)| listing(name, *book));
 }
 
@@ -89,20 +91,31 @@ fn listing(name: &str, book: Book<&[u8]>) {
     let (count, rows) = (due.count, due.count.rows as u64);
     let by_gecode = gecode::check(&book);
     assert_eq!((by_gecode.rows, by_gecode.checksum), (rows, due.checksum));
-    let mut search_time = f64::INFINITY;
-    let [library, second, gecode] = race([
+    let encoding = clasp::Encoding::new(&book);
+    let (mut searched, mut reported) = (f64::INFINITY, f64::INFINITY);
+    let [library, second, gecode, clasp] = race([
         Contender::new(|| assert_eq!(ours.count(), count)),
         Contender::new(|| assert_eq!(theirs.count(), count)),
         Contender::new(|| {
             let listed = gecode::count(&book);
             assert_eq!(listed.rows, rows);
-            search_time = search_time.min(listed.search);
+            searched = searched.min(listed.search);
+        }),
+        Contender::new(|| {
+            let answer = encoding.ask();
+            assert_eq!(answer.models, rows);
+            reported = reported.min(answer.time);
         }),
     ]);
     let search = Best {
-        time: search_time,
+        time: searched,
         ..gecode
     };
+    let report = Best {
+        time: reported,
+        rough: true,
+        ..clasp
+    };
     let input = format!("{name}: {rows} rows");
-    line(&input, library, &[second, gecode, search]);
+    line(&input, library, &[second, gecode, search, clasp, report]);
 }

@@ -15,6 +15,8 @@ const MOST_TIME: f64 = 10.0;
 pub struct Best {
     pub time: f64,
     pub turns: usize,
+    /// Whether the time is known to the millisecond only.
+    pub rough: bool,
 }
 
 /// A contender, which is run once a turn.
@@ -30,6 +32,7 @@ impl<'a> Contender<'a> {
             best: Best {
                 time: f64::INFINITY,
                 turns: 0,
+                rough: false,
             },
             spent: 0.0,
             run: Box::new(move || drop(black_box(run()))),
@@ -67,7 +70,8 @@ pub fn conditions() {
         "{cores} cores; each contender uses one.
 Best of at least {LEAST_TURNS} turns, the contenders alternating; of fewer, marked *, where they last above {MOST_TIME} s in all.
 Rooms are lent: written to before the first turn, not cleared between turns. What a contender allocates itself is timed.
-In a timed turn a listing is counted, not looked at: that the contenders list the same is seen before.
+In a timed turn a listing is counted, not looked at: that the contenders list the same is seen before, for clasp by its number of models.
+clasp is a process of its own, timed from its start to its end; writing its file is not timed. Beside it stands the time that it reports itself, with a resolution of a millisecond.
 A ratio is the contender's time divided by the library's: above 1 the library is the faster one."
     );
 }
@@ -91,9 +95,12 @@ pub fn line(input: &str, library: Best, contenders: &[Best]) {
     println!();
 }
 
-/// A time with three significant digits.
+/// A time with three significant digits, or a rough one in milliseconds.
 fn written(best: Best) -> String {
     let few = if best.turns < LEAST_TURNS { "*" } else { "" };
+    if best.rough {
+        return format!("{:.0} ms{few}", best.time * 1e3);
+    }
     let (amount, unit) = [(1e9, "ns"), (1e6, "us"), (1e3, "ms")]
         .map(|(scale, unit)| (best.time * scale, unit))
         .into_iter()
