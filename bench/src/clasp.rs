@@ -42,7 +42,7 @@ impl Encoding {
             .arg(&self.file)
             .output()
             .expect("clasp is installed");
-        // 30: models were found and no more are left; 20: there are none.
+        // 30: models were found and none is left; 20: there are none. At 10 some may be left.
         let status = output.status.code();
         assert!(
             matches!(status, Some(20 | 30)),

@@ -17,6 +17,9 @@ use crate::inputs::Table;
 use crate::listing::{by_library, by_second, Pages};
 use crate::report::{conditions, heading, line, race, Best, Contender};
 
+/// Pages of few steps that are listed in one turn.
+const MOST_PAGES: usize = 100;
+
 fn main() {
     conditions();
     let tables = inputs::tables();
@@ -36,6 +39,12 @@ fn main() {
     let contenders = ["second", "Gecode", "its search", "clasp", "it reports"];
     heading("listing whole", &contenders);
     books.iter().for_each(|(name, book)| listing(name, *book));
+    for (call, budget) in [("a page of one step", 1), ("a page of 64 steps", 64)] {
+        heading(call, &["second"]);
+        books
+            .iter()
+            .for_each(|(name, book)| paging(name, *book, budget));
+    }
 }
 
 fn book_of(table: &Table) -> Book {
@@ -118,4 +127,23 @@ fn listing(name: &str, book: Book<&[u8]>) {
     };
     let input = format!("{name}: {rows} rows");
     line(&input, library, &[second, gecode, search, clasp, report]);
+}
+
+/// The mean time of a page, over the first ones.
+fn paging(name: &str, book: Book<&[u8]>, budget: usize) {
+    let mut ours = Pages::new(book.l(), MOST_PAGES, by_library(book, budget));
+    let mut theirs = Pages::new(book.l(), MOST_PAGES, by_second(book, budget));
+    let due = ours.check();
+    assert_eq!(theirs.check(), due);
+    let pages = due.count.pages;
+    let means = race([
+        Contender::new(|| assert_eq!(ours.count(), due.count)),
+        Contender::new(|| assert_eq!(theirs.count(), due.count)),
+    ]);
+    let [library, second] = means.map(|best| Best {
+        time: best.time / pages as f64,
+        ..best
+    });
+    let input = format!("{name}: {pages} pages");
+    line(&input, library, &[second]);
 }

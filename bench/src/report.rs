@@ -72,6 +72,7 @@ Best of at least {LEAST_TURNS} turns, the contenders alternating; of fewer, mark
 Rooms are lent: written to before the first turn, not cleared between turns. What a contender allocates itself is timed.
 In a timed turn a listing is counted, not looked at: that the contenders list the same is seen before, for clasp by its number of models.
 clasp is a process of its own, timed from its start to its end; writing its file is not timed. Beside it stands the time that it reports itself, with a resolution of a millisecond.
+The time of a page of few steps is the mean over the first pages, each from the cursor that the last one gave.
 A ratio is the contender's time divided by the library's: above 1 the library is the faster one."
     );
 }
