@@ -5,7 +5,7 @@ use std::hint::black_box;
 use rulebook::{Book, Cursor, Page};
 
 /// Bytes of a page's room.
-const ROOM: usize = 65_536;
+pub const ROOM: usize = 65_536;
 
 /// The page of a book from a cursor on, with a budget, as the library answers it.
 pub fn by_library<'a>(

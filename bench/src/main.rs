@@ -8,6 +8,7 @@ mod gecode;
 mod inputs;
 mod listing;
 mod report;
+mod stack;
 
 use std::hint::black_box;
 
@@ -15,7 +16,7 @@ use rulebook::{make, make_in, Book, Verdict, MOST_STEPS};
 
 use crate::inputs::Table;
 use crate::listing::{by_library, by_second, Pages};
-use crate::report::{conditions, heading, line, race, Best, Contender};
+use crate::report::{amount, conditions, heading, line, race, Best, Contender};
 
 /// Pages of few steps that are listed in one turn.
 const MOST_PAGES: usize = 100;
@@ -44,6 +45,10 @@ fn main() {
         books
             .iter()
             .for_each(|(name, book)| paging(name, *book, budget));
+    }
+    heading("stack of a page, painted", &[]);
+    for (name, book) in &books {
+        amount(name, stack::of_page(*book));
     }
 }
 

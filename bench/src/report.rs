@@ -63,7 +63,7 @@ pub fn race<const COUNT: usize>(mut contenders: [Contender; COUNT]) -> [Best; CO
     contenders.map(|each| each.best)
 }
 
-/// What the times rest on.
+/// What the numbers rest on.
 pub fn conditions() {
     let cores = std::thread::available_parallelism().map_or(0, usize::from);
     println!(
@@ -73,7 +73,8 @@ Rooms are lent: written to before the first turn, not cleared between turns. Wha
 In a timed turn a listing is counted, not looked at: that the contenders list the same is seen before, for clasp by its number of models.
 clasp is a process of its own, timed from its start to its end; writing its file is not timed. Beside it stands the time that it reports itself, with a resolution of a millisecond.
 The time of a page of few steps is the mean over the first pages, each from the cursor that the last one gave.
-A ratio is the contender's time divided by the library's: above 1 the library is the faster one."
+A ratio is the contender's time divided by the library's: above 1 the library is the faster one.
+The stack of a page, from the first row on with the most steps, goes from its caller's frame to the deepest byte that it changed."
     );
 }
 
@@ -94,6 +95,11 @@ pub fn line(input: &str, library: Best, contenders: &[Best]) {
         print!("{:>12}{ratio:>8.2}", written(*contender));
     }
     println!();
+}
+
+/// One line of bytes in the place of times.
+pub fn amount(input: &str, bytes: usize) {
+    println!("  {input:<46}{:>12}", format!("{bytes} bytes"));
 }
 
 /// A time with three significant digits, or a rough one in milliseconds.
