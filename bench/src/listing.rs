@@ -1,75 +1,119 @@
-//! A whole book listed, three ways, with a checksum of what was listed.
+//! Pages one after another, from the library and from the second program alike.
 
-use rulebook::{Book, Cursor, MOST_STEPS};
+use std::hint::black_box;
 
-/// What must agree between listings: how many rows, and every value of each in order.
-#[derive(Clone, Copy, Debug, Default, PartialEq, Eq)]
-pub struct Listed {
-    pub rows: u64,
-    pub checksum: u64,
+use rulebook::{Book, Cursor, Page};
+
+/// Bytes of a page's room.
+pub const ROOM: usize = 65_536;
+
+/// The page of a book from a cursor on, with a budget, as the library answers it.
+pub fn by_library<'a>(
+    book: Book<&'a [u8]>,
+    budget: usize,
+) -> impl Fn(Cursor, &mut [u8]) -> Page + 'a {
+    move |cursor, room| book.page(cursor, room, budget).expect("a sound call")
 }
 
-impl Listed {
-    fn add(&mut self, rows: u64, values: &[u8]) {
-        self.rows += rows;
-        self.checksum = values.iter().fold(self.checksum, |sum, value| {
-            (sum ^ u64::from(*value)).wrapping_mul(0x100_0000_01b3)
-        });
-    }
-}
-
-pub fn by_library(book: &Book<&[u8]>, room: &mut [u8]) -> Listed {
-    let mut listed = Listed::default();
-    let mut cursor = Cursor::BEGINNING;
-    loop {
-        let page = book.page(cursor, room, MOST_STEPS).expect("a sound call");
-        listed.add(page.rows as u64, &room[..page.rows * book.l()]);
-        if page.finished {
-            return listed;
-        }
-        cursor = page.cursor;
-    }
-}
-
-pub fn by_second(book: &[u8], room: &mut [u8]) -> Listed {
-    let l = usize::from(book[3]);
-    let mut listed = Listed::default();
-    let mut cursor = second::Cursor::BEGINNING;
-    loop {
-        let (page, reached) = second::page(book, cursor, room, second::MOST_STEPS);
+/// The same, as the second program answers it.
+pub fn by_second<'a>(
+    book: Book<&'a [u8]>,
+    budget: usize,
+) -> impl Fn(Cursor, &mut [u8]) -> Page + 'a {
+    let book = book.into_bytes();
+    move |cursor, room| {
+        let after = second::Cursor {
+            length: cursor.len as u64,
+            values: cursor.values,
+        };
+        let (page, reached) = second::page(book, after, room, budget as u64);
         let page = page.expect("a sound call");
-        listed.add(page.rows, &room[..page.rows as usize * l]);
-        if page.finished {
-            return listed;
-        }
-        cursor = reached;
-    }
-}
-
-/// What the lister over Gecode answers.
-#[repr(C)]
-pub struct ByGecode {
-    rows: u64,
-    checksum: u64,
-    /// Seconds, without making the model.
-    pub search: f64,
-}
-
-impl ByGecode {
-    pub fn listed(&self) -> Listed {
-        Listed {
-            rows: self.rows,
-            checksum: self.checksum,
+        Page {
+            rows: page.rows as usize,
+            steps: page.steps as usize,
+            finished: page.finished,
+            cursor: Cursor {
+                len: reached.length as usize,
+                values: reached.values,
+            },
         }
     }
 }
 
-extern "C" {
-    fn gecode_list(book: *const u8) -> ByGecode;
+/// What pages come to together.
+#[derive(Clone, Copy, Debug, Default, PartialEq, Eq)]
+pub struct Count {
+    pub pages: usize,
+    pub rows: usize,
+    pub steps: usize,
 }
 
-pub fn by_gecode(book: &Book<&[u8]>) -> ByGecode {
-    // SAFETY: the lister only reads, as far as the head and the records' counts say, and the bytes
-    // of an accepted book are as many as these say.
-    unsafe { gecode_list(book.as_bytes().as_ptr()) }
+/// What must agree between the library and the second program: every page, and its rows.
+#[derive(Debug, PartialEq, Eq)]
+pub struct Checked {
+    pub count: Count,
+    /// Over every value of every row in order; gecode.cpp makes the same.
+    pub checksum: u64,
+    pages: Vec<Page>,
+}
+
+/// The pages from the beginning on, each from the cursor that the last one gave.
+pub struct Pages<P> {
+    l: usize,
+    most: usize,
+    page: P,
+    room: Vec<u8>,
+}
+
+impl<P: Fn(Cursor, &mut [u8]) -> Page> Pages<P> {
+    /// At most so many pages of rows of l values.
+    pub fn new(l: usize, most: usize, page: P) -> Pages<P> {
+        let room = vec![1; ROOM];
+        Pages {
+            l,
+            most,
+            page,
+            room,
+        }
+    }
+
+    /// Nothing but the pages: what is timed.
+    pub fn count(&mut self) -> Count {
+        self.each(|page, rows| {
+            black_box((page, rows));
+        })
+    }
+
+    /// The pages, and what can be compared of them.
+    pub fn check(&mut self) -> Checked {
+        let (mut checksum, mut pages) = (0, Vec::new());
+        let count = self.each(|page, rows| {
+            pages.push(*page);
+            checksum = rows.iter().fold(checksum, |sum: u64, value| {
+                (sum ^ u64::from(*value)).wrapping_mul(0x100_0000_01b3)
+            });
+        });
+        Checked {
+            count,
+            checksum,
+            pages,
+        }
+    }
+
+    fn each(&mut self, mut see: impl FnMut(&Page, &[u8])) -> Count {
+        let mut count = Count::default();
+        let mut cursor = Cursor::BEGINNING;
+        while count.pages < self.most {
+            let page = (self.page)(cursor, &mut self.room);
+            see(&page, &self.room[..page.rows * self.l]);
+            count.pages += 1;
+            count.rows += page.rows;
+            count.steps += page.steps;
+            if page.finished {
+                break;
+            }
+            cursor = page.cursor;
+        }
+        count
+    }
 }

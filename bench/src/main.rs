@@ -1,37 +1,55 @@
-//! The library measured beside the second program and, for listings, Gecode.
+//! The library measured beside the second program and, for listings, Gecode and clasp.
 //!
 //! Every line is one race on one input, and what the contenders answer must agree.
 
 mod chance;
+mod clasp;
+mod gecode;
 mod inputs;
 mod listing;
 mod report;
+mod stack;
 
 use std::hint::black_box;
 
-use rulebook::{make, make_in, Book, Verdict};
+use rulebook::{make, make_in, Book, Verdict, MOST_STEPS};
 
 use crate::inputs::Table;
-use crate::report::{conditions, heading, line, race, Best, Contender};
+use crate::listing::{by_library, by_second, Pages};
+use crate::report::{amount, conditions, heading, line, race, Best, Contender};
 
-/// Bytes of a page's room.
-const PAGE: usize = 65_536;
+/// Pages of few steps that are listed in one turn.
+const MOST_PAGES: usize = 100;
 
 fn main() {
     conditions();
     let tables = inputs::tables();
-    let books: Vec<Book> = tables.iter().map(book_of).collect();
-    let both = || tables.iter().zip(&books);
+    let made: Vec<Book> = tables.iter().map(book_of).collect();
+    let both = || tables.iter().zip(&made);
     heading("making", &["second"]);
     both().for_each(|(table, book)| making(table, book));
     heading("reading", &["second"]);
     both().for_each(|(table, book)| reading(table, book));
     heading("testing a row, which meets every rule", &["second"]);
     both().for_each(|(table, book)| testing(table, book));
-    heading("listing whole", &["second", "Gecode", "its search"]);
-    both().for_each(|(table, book)| listing(table.name, book));
     let typed = Book::read(inputs::typed()).expect("a sound book");
-    listing("typed, 6 rules, n 10 l 6", &typed);
+    let mut books: Vec<_> = both()
+        .map(|(table, book)| (table.name, book.view()))
+        .collect();
+    books.push(("typed, 6 rules, n 10 l 6", typed.view()));
+    let contenders = ["second", "Gecode", "its search", "clasp", "it reports"];
+    heading("listing whole", &contenders);
+    books.iter().for_each(|(name, book)| listing(name, *book));
+    for (call, budget) in [("a page of one step", 1), ("a page of 64 steps", 64)] {
+        heading(call, &["second"]);
+        books
+            .iter()
+            .for_each(|(name, book)| paging(name, *book, budget));
+    }
+    heading("stack of a page, painted", &[]);
+    for (name, book) in &books {
+        amount(name, stack::of_page(*book));
+    }
 }
 
 fn book_of(table: &Table) -> Book {
@@ -79,24 +97,58 @@ fn testing(table: &Table, book: &Book) {
     line(table.name, library, &[second]);
 }
 
-fn listing(name: &str, book: &Book) {
-    let book = book.view();
-    let (mut ours, mut theirs) = (vec![1; PAGE], vec![1; PAGE]);
-    let due = listing::by_library(&book, &mut ours);
-    let mut search_time = f64::INFINITY;
-    let [library, second, gecode] = race([
-        Contender::new(|| assert_eq!(listing::by_library(&book, &mut ours), due)),
-        Contender::new(|| assert_eq!(listing::by_second(book.as_bytes(), &mut theirs), due)),
+fn listing(name: &str, book: Book<&[u8]>) {
+    let mut ours = Pages::new(book.l(), usize::MAX, by_library(book, MOST_STEPS));
+    let mut theirs = Pages::new(book.l(), usize::MAX, by_second(book, MOST_STEPS));
+    let due = ours.check();
+    assert_eq!(theirs.check(), due);
+    let (count, rows) = (due.count, due.count.rows as u64);
+    let by_gecode = gecode::check(&book);
+    assert_eq!((by_gecode.rows, by_gecode.checksum), (rows, due.checksum));
+    let encoding = clasp::Encoding::new(&book);
+    let (mut searched, mut reported) = (f64::INFINITY, f64::INFINITY);
+    let [library, second, gecode, clasp] = race([
+        Contender::new(|| assert_eq!(ours.count(), count)),
+        Contender::new(|| assert_eq!(theirs.count(), count)),
         Contender::new(|| {
-            let by_gecode = listing::by_gecode(&book);
-            assert_eq!(by_gecode.listed(), due);
-            search_time = search_time.min(by_gecode.search);
+            let listed = gecode::count(&book);
+            assert_eq!(listed.rows, rows);
+            searched = searched.min(listed.search);
+        }),
+        Contender::new(|| {
+            let answer = encoding.ask();
+            assert_eq!(answer.models, rows);
+            reported = reported.min(answer.time);
         }),
     ]);
     let search = Best {
-        time: search_time,
-        turns: gecode.turns,
+        time: searched,
+        ..gecode
     };
-    let input = format!("{name}: {} rows", due.rows);
-    line(&input, library, &[second, gecode, search]);
+    let report = Best {
+        time: reported,
+        rough: true,
+        ..clasp
+    };
+    let input = format!("{name}: {rows} rows");
+    line(&input, library, &[second, gecode, search, clasp, report]);
+}
+
+/// The mean time of a page, over the first ones.
+fn paging(name: &str, book: Book<&[u8]>, budget: usize) {
+    let mut ours = Pages::new(book.l(), MOST_PAGES, by_library(book, budget));
+    let mut theirs = Pages::new(book.l(), MOST_PAGES, by_second(book, budget));
+    let due = ours.check();
+    assert_eq!(theirs.check(), due);
+    let pages = due.count.pages;
+    let means = race([
+        Contender::new(|| assert_eq!(ours.count(), due.count)),
+        Contender::new(|| assert_eq!(theirs.count(), due.count)),
+    ]);
+    let [library, second] = means.map(|best| Best {
+        time: best.time / pages as f64,
+        ..best
+    });
+    let input = format!("{name}: {pages} pages");
+    line(&input, library, &[second]);
 }
