@@ -7,11 +7,11 @@ ghost use lib.ListN.{length};
 ghost use Rattle.meaning.specs.Lists.{opt};
 ghost use Rattle.meaning.specs.Rules.{atMost, atLeast};
 ghost use Rattle.meaning.specs.General.{differs, earlier};
-ghost use Rattle.hand.specs.Inner.{ruleIn, Holding};
+ghost use Rattle.reducing.specs.Inner.{ruleIn, Holding};
 ghost use Rattle.makers.specs.Inner.{Spare};
-use hand::Hand;
-use hand::empty;
-use hand::push;
+use reducing::Hand;
+use reducing::empty;
+use reducing::push;
 
 // A setting or a size as a byte.
 pub fn byte(i: usize) -> u8
