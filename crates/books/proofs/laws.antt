@@ -1,5 +1,4 @@
 pub mod Fields
-pub mod Limits
 pub mod Literals
 pub mod Idle
 pub mod Rules
@@ -11,7 +10,7 @@ pub mod Part
 pub mod Head
 pub mod Put
 pub mod Records
-pub mod Signs
+pub mod Family
 pub mod First
 pub mod Asked
 pub mod Tested

@@ -6,11 +6,11 @@ ghost use Rattle.meaning.specs.Lists.{opt};
 ghost use Rattle.meaning.specs.Rows.{rowsOf};
 ghost use Rattle.reducing.specs.Inner.{ruleIn, Ready};
 ghost use Rattle.makers.specs.Inner.{Countable, Sent, ruledOf, Sides, SentEdges};
-use crate::earlier::byte;
 use crate::earlier::differ;
 use crate::earlier::differs_before;
 use crate::sending::Tally;
 use crate::sending::send;
+use literals::narrow;
 use reducing::Hand;
 use reducing::push;
 use reducing::reduced;
@@ -73,7 +73,7 @@ pub fn edges(
     let mut i = from;
     let mut sent = tally;
     while i < sizes.len() {
-        let setting = byte(i);
+        let setting = narrow(i);
         let rule = push(h, setting, side, row[i]);
         let open = ruled(side, sizes[i], row[i]);
         sent = slot(open, rule, family, table, sizes.len(), room, sent);

@@ -2,11 +2,8 @@ pub mod Hand
 pub mod Known
 pub mod Pass
 pub mod Change
-pub mod Number
 pub mod Counts
 pub mod Counted
 pub mod Reduced
-pub mod Sides
 pub mod Joined
 pub mod Chosen
-pub mod Asked

@@ -2,15 +2,15 @@
 use Prim.Native.Nat.{ℕ, _+_, _*_, _≤_, _<_, _-_}
 use mathlib.Core.Path.{_≡_}
 use mathlib.Core.List.{List, [], _∷_, _++_}
-use mathlib.Core.Bool.{Bool, true, false, not, _&&_, cond}
+use mathlib.Core.Bool.{Bool, true, not, _&&_, cond}
 use mathlib.Core.Option.{Option, none, some}
 use lib.ListN.{length, getD, drop, take}
 use lib.Dec.{eqb}
-use Rattle.meaning.specs.Rules.{Rule, setting, Literal, holds, Side, low, high}
+use Rattle.meaning.specs.Rules.{Rule, Literal, holds, Side}
 use Rattle.meaning.specs.Bytes.{literalsAt}
-use Rattle.meaning.specs.Lists.{All}
 use Rattle.meaning.specs.Rows.{rowsOf, Row}
 use Rattle.meaning.specs.Families.{pick}
+use Rattle.literals.specs.Inner.{Known, one, number}
 use Rattle.reducing.specs.declared.Hand.{Hand}
 use Rattle.reducing.specs.declared.sides.Joined.{Joined}
 
@@ -28,9 +28,6 @@ pub record Holding (r : Rule) (h : Hand) : Type 0 where
   pub sane : Sane h
   pub rule : ruleIn h ≡ r
 
-abbrev pub Known : ℕ → Rule → Type 0
-Known l r = All (λ c. setting c < l) r
-
 -- what a reduction asks of a hand and a table, l bytes to a row
 pub record Ready (h : Hand) (l : ℕ) (table : List ℕ) : Type 0 where
   pub sane : Sane h
@@ -44,14 +41,6 @@ module _ {A : Type 0} (f : ℕ → A → ℕ) where
   unfoldable pub change : List A → List ℕ → List ℕ
   change [] ns = ns
   change (m ∷ ms) ns = f (getD ns 0 0) m ∷ change ms (drop 1 ns)
-
-unfoldable pub one : Bool → ℕ
-one true = 1
-one false = 0
-
-unfoldable pub number : (Literal → Bool) → Rule → ℕ
-number t [] = 0
-number t (c ∷ r) = one (t c) + number t r
 
 -- a row's number anew, and without a literal
 abbrev pub counting : Rule → ℕ → Row → ℕ
@@ -68,10 +57,6 @@ spare c (m ∷ rows) ns = not (eqb (getD ns 0 0) (one (holds c m))) && spare c r
 pub record Settled (c : Literal) (rows : List Row) (ns next : List ℕ) (out r : Hand) : Type 0 where
   pub rule : Holding (cond (spare c rows ns) (ruleIn out) (ruleIn out ++ (c ∷ []))) r
   pub numbers : next ≡ cond (spare c rows ns) (change (lowering c) rows ns) ns
-
-abbrev pub side : Bool → Side
-side false = low
-side true = high
 
 -- the row of l values, or none
 abbrev pub rowIn : ℕ → Joined → Option Row

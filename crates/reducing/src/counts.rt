@@ -4,32 +4,32 @@
 use crate::Hand;
 use crate::empty;
 use crate::push;
-use crate::tests::holds;
+use literals::holds_at;
 ghost use mathlib.Core.Path.{_≡_};
-ghost use mathlib.Core.Bool.{cond};
-ghost use mathlib.Core.List.{[], _∷_, _++_};
+ghost use mathlib.Core.List.{[]};
 ghost use Prim.Native.Nat.{_+_, _-_, _≤_, _<_};
 ghost use lib.ListN.{length, getD};
 ghost use Rattle.meaning.specs.Rows.{rowsOf};
 ghost use Rattle.meaning.specs.Rules.{holds};
 ghost use Rattle.meaning.specs.Bytes.{literalAt, literalsAt};
 ghost use Rattle.meaning.specs.Families.{trim};
-ghost use Rattle.reducing.specs.Inner.{ruleIn, Sane, Holding, Known, Ready, change, one, number, counting, lowering, spare, Settled};
+ghost use Rattle.reducing.specs.Inner.{ruleIn, Sane, Holding, Ready, change, counting, lowering, spare, Settled};
+ghost use Rattle.literals.specs.Inner.{Askable, one, number};
 
 // 1 if the literal at `p` holds in the row, 0 if not.
-fn one(bytes: &[u8; 96], p: usize, row: &[u8]) -> u8
-    requires { ⌜ (p + 3 ≤ 96) × (getD (now bytes) p 0 < length (now row)) ⌝ }
+fn one(bytes: &[u8], p: usize, row: &[u8]) -> u8
+    requires { ⌜ (p + 3 ≤ length (now bytes)) × (getD (now bytes) p 0 < length (now row)) ⌝ }
     ensures { λ r. ⌜ r ≡ one (holds (literalAt (now (bytes .entry)) p) (now (row .entry))) ⌝ }
 {
-    if holds(bytes, p, row) {
+    if holds_at(bytes, p, row) {
         return 1;
     }
     0
 }
 
 // How many of the first `count` literals hold in the row?
-fn number(bytes: &[u8; 96], count: usize, row: &[u8]) -> u8
-    requires { ⌜ (count ≤ 32) × Known (length (now row)) (literalsAt (now bytes) 0 count) ⌝ }
+fn number(bytes: &[u8], count: usize, row: &[u8]) -> u8
+    requires { ⌜ (count ≤ 32) × Askable (now bytes) 0 count (length (now row)) ⌝ }
     ensures { λ r. ⌜ r ≡ number (λ c. holds c (now (row .entry))) (literalsAt (now (bytes .entry)) 0 count) ⌝ }
 {
     let mut k: u8 = 0;
@@ -45,8 +45,8 @@ fn number(bytes: &[u8; 96], count: usize, row: &[u8]) -> u8
 }
 
 // Writes for each row how many of the first `count` literals hold in it; the counts behind stay.
-fn tally(bytes: &[u8; 96], count: usize, table: &[u8], l: usize, counts: &mut [u8; 512])
-    requires { ⌜ (1 ≤ l) × (length (rowsOf l (now table)) ≤ 512) × (length (now counts) ≡ 512) × (count ≤ 32) × Known l (literalsAt (now bytes) 0 count) ⌝ }
+fn tally(bytes: &[u8], count: usize, table: &[u8], l: usize, counts: &mut [u8; 512])
+    requires { ⌜ (1 ≤ l) × (length (rowsOf l (now table)) ≤ 512) × (length (now counts) ≡ 512) × (count ≤ 32) × Askable (now bytes) 0 count l ⌝ }
     ensures { λ r. ⌜ now (counts .exit) ≡ change (counting (literalsAt (now (bytes .entry)) 0 count)) (rowsOf l (now (table .entry))) (now (counts .entry)) ⌝ }
 {
     let mut k: usize = 0;
@@ -70,8 +70,8 @@ fn less(n: u8, one: u8) -> u8
 }
 
 // Takes the literal at `p` out of the counts: of each row in which it holds; the counts behind stay.
-fn lower(bytes: &[u8; 96], p: usize, table: &[u8], l: usize, counts: &mut [u8; 512])
-    requires { ⌜ (1 ≤ l) × (length (rowsOf l (now table)) ≤ 512) × (length (now counts) ≡ 512) × (p + 3 ≤ 96) × (getD (now bytes) p 0 < l) ⌝ }
+fn lower(bytes: &[u8], p: usize, table: &[u8], l: usize, counts: &mut [u8; 512])
+    requires { ⌜ (1 ≤ l) × (length (rowsOf l (now table)) ≤ 512) × (length (now counts) ≡ 512) × (p + 3 ≤ length (now bytes)) × (getD (now bytes) p 0 < l) ⌝ }
     ensures { λ r. ⌜ now (counts .exit) ≡ change (lowering (literalAt (now (bytes .entry)) p)) (rowsOf l (now (table .entry))) (now (counts .entry)) ⌝ }
 {
     let mut k: usize = 0;
@@ -85,8 +85,8 @@ fn lower(bytes: &[u8; 96], p: usize, table: &[u8], l: usize, counts: &mut [u8; 5
 }
 
 // Can the literal at `p` be spared: is it no row's only one?
-fn spare(bytes: &[u8; 96], p: usize, table: &[u8], l: usize, counts: &[u8; 512]) -> bool
-    requires { ⌜ (1 ≤ l) × (length (rowsOf l (now table)) ≤ 512) × (p + 3 ≤ 96) × (getD (now bytes) p 0 < l) ⌝ }
+fn spare(bytes: &[u8], p: usize, table: &[u8], l: usize, counts: &[u8; 512]) -> bool
+    requires { ⌜ (1 ≤ l) × (length (rowsOf l (now table)) ≤ 512) × (p + 3 ≤ length (now bytes)) × (getD (now bytes) p 0 < l) ⌝ }
     ensures { λ r. ⌜ r ≡ spare (literalAt (now (bytes .entry)) p) (rowsOf l (now (table .entry))) (now (counts .entry)) ⌝ }
 {
     let mut k: usize = 0;
@@ -104,15 +104,8 @@ fn spare(bytes: &[u8; 96], p: usize, table: &[u8], l: usize, counts: &[u8; 512])
 }
 
 // Goes past the literal at `p`: takes it out of the counts if it can be spared, and otherwise keeps it, at the end of `out`.
-fn settle(
-    out: Hand,
-    bytes: &[u8; 96],
-    p: usize,
-    table: &[u8],
-    l: usize,
-    counts: &mut [u8; 512],
-) -> Hand
-    requires { ⌜ Sane out × (out .count < 32) × (1 ≤ l) × (length (rowsOf l (now table)) ≤ 512) × (length (now counts) ≡ 512) × (p + 3 ≤ 96) × (getD (now bytes) p 0 < l) × (getD (now bytes) (p + 1) 0 < 2) ⌝ }
+fn settle(out: Hand, bytes: &[u8], p: usize, table: &[u8], l: usize, counts: &mut [u8; 512]) -> Hand
+    requires { ⌜ Sane out × (out .count < 32) × (1 ≤ l) × (length (rowsOf l (now table)) ≤ 512) × (length (now counts) ≡ 512) × (p + 3 ≤ length (now bytes)) × (getD (now bytes) p 0 < l) × (getD (now bytes) (p + 1) 0 < 2) ⌝ }
     ensures { λ r. ⌜ Settled (literalAt (now (bytes .entry)) p) (rowsOf l (now (table .entry))) (now (counts .entry)) (now (counts .exit)) out r ⌝ }
 {
     if spare(bytes, p, table, l, counts) {

@@ -1,13 +1,11 @@
 // Reducing: a rule in hand, the count and the bytes of its literals by value as the book has them, and its reduction into a family.
 pub mod counts;
 pub mod sides;
-pub mod tests;
 
 use crate::counts::trim;
 use crate::sides::horn;
-ghost use mathlib.Core.Path.{_≡_};
 ghost use mathlib.Core.List.{[], _∷_, _++_};
-ghost use Prim.Native.Nat.{_+_, _*_, _≤_, _<_};
+ghost use Prim.Native.Nat.{_+_, _*_, _<_};
 ghost use Rattle.meaning.specs.Rows.{rowsOf};
 ghost use Rattle.meaning.specs.Bytes.{literal};
 ghost use Rattle.meaning.specs.Families.{reduceFor};

@@ -2,11 +2,13 @@
 use crate::Hand;
 use crate::empty;
 use crate::push;
-use crate::tests::holds;
-use crate::tests::met;
+use literals::holds_at;
+use literals::met;
+use literals::scarce;
+use literals::scarces;
 ghost use mathlib.Core.Path.{_≡_};
-ghost use mathlib.Core.Bool.{cond, not, _&&_, _||_};
-ghost use mathlib.Core.List.{[], _∷_, _++_};
+ghost use mathlib.Core.Bool.{cond, _||_};
+ghost use mathlib.Core.List.{_++_};
 ghost use mathlib.Core.Option.{none};
 ghost use Prim.Native.Nat.{_+_, _≤_, _<_};
 ghost use lib.ListN.{length, getD};
@@ -14,8 +16,10 @@ ghost use Rattle.meaning.specs.Lists.{opt};
 ghost use Rattle.meaning.specs.Rows.{rowsOf};
 ghost use Rattle.meaning.specs.Rules.{scarce, scarces, met};
 ghost use Rattle.meaning.specs.Bytes.{literalAt, literalsAt};
-ghost use Rattle.meaning.specs.Families.{pick, join, extreme, keepFor, reduce};
-ghost use Rattle.reducing.specs.Inner.{ruleIn, Sane, Holding, Known, Ready, one, side, rowIn, Joins, picked, chosen};
+ghost use Rattle.meaning.specs.Families.{join, extreme, keepFor, reduce};
+ghost use Rattle.meaning.specs.Inner.{sideOf};
+ghost use Rattle.reducing.specs.Inner.{ruleIn, Sane, Holding, Ready, rowIn, Joins, picked, chosen};
+ghost use Rattle.literals.specs.Inner.{Known, Askable};
 
 // What rows combine to, setting by setting: nothing where there is none of them.
 pub struct Joined {
@@ -23,49 +27,9 @@ pub struct Joined {
     pub values: [u8; 16],
 }
 
-// Is the literal at `p` scarce: positive for Horn, negative for dual Horn?
-fn scarce(bytes: &[u8; 96], p: usize, high: bool) -> bool
-    requires { ⌜ p + 3 ≤ 96 ⌝ }
-    ensures { λ r. ⌜ r ≡ scarce (side high) (literalAt (now (bytes .entry)) p) ⌝ }
-{
-    let sign = bytes[p + 1];
-    if high {
-        return sign == 0;
-    }
-    sign != 0
-}
-
-// 1 for a scarce literal at `p`, 0 for a common one.
-fn scarce_one(bytes: &[u8; 96], p: usize, high: bool) -> usize
-    requires { ⌜ p + 3 ≤ 96 ⌝ }
-    ensures { λ r. ⌜ r ≡ one (scarce (side high) (literalAt (now (bytes .entry)) p)) ⌝ }
-{
-    if scarce(bytes, p, high) {
-        return 1;
-    }
-    0
-}
-
-// How many of the first `count` literals are scarce?
-fn scarces(bytes: &[u8; 96], count: usize, high: bool) -> usize
-    requires { ⌜ count ≤ 32 ⌝ }
-    ensures { λ r. ⌜ r ≡ scarces (side high) (literalsAt (now (bytes .entry)) 0 count) ⌝ }
-{
-    let mut k: usize = 0;
-    let mut p: usize = 0;
-    let mut j: usize = 0;
-    while j < count {
-        let more = scarce_one(bytes, p, high);
-        k += more;
-        p += 3;
-        j += 1;
-    }
-    k
-}
-
 // The lesser of two values, or for `high` the greater; the second where there is no first (`any`).
 fn picked(any: bool, high: bool, u: u8, v: u8) -> u8
-    ensures { λ r. ⌜ r ≡ picked any (side high) u v ⌝ }
+    ensures { λ r. ⌜ r ≡ picked any (sideOf high) u v ⌝ }
 {
     if !any {
         return v;
@@ -85,7 +49,7 @@ fn picked(any: bool, high: bool, u: u8, v: u8) -> u8
 // What rows combine to with one row more.
 fn join(e: Joined, high: bool, row: &[u8]) -> Joined
     requires { ⌜ (length (e .values) ≡ 16) × (length (now row) ≤ 16) ⌝ }
-    ensures { λ r. ⌜ Joins (length (now (row .entry))) (join (side high) (rowIn (length (now (row .entry))) e) (now (row .entry))) r ⌝ }
+    ensures { λ r. ⌜ Joins (length (now (row .entry))) (join (sideOf high) (rowIn (length (now (row .entry))) e) (now (row .entry))) r ⌝ }
 {
     let any = e.any;
     let mut values = e.values;
@@ -98,20 +62,20 @@ fn join(e: Joined, high: bool, row: &[u8]) -> Joined
 }
 
 // The same, unless that row meets the rule of the first `count` literals.
-fn pass(e: Joined, bytes: &[u8; 96], count: usize, high: bool, row: &[u8]) -> Joined
-    requires { ⌜ (length (e .values) ≡ 16) × (length (now row) ≤ 16) × (count ≤ 32) × Known (length (now row)) (literalsAt (now bytes) 0 count) ⌝ }
-    ensures { λ r. ⌜ Joins (length (now (row .entry))) (cond (met (literalsAt (now (bytes .entry)) 0 count) (now (row .entry))) (rowIn (length (now (row .entry))) e) (join (side high) (rowIn (length (now (row .entry))) e) (now (row .entry)))) r ⌝ }
+fn pass(e: Joined, bytes: &[u8], count: usize, high: bool, row: &[u8]) -> Joined
+    requires { ⌜ (length (e .values) ≡ 16) × (length (now row) ≤ 16) × Askable (now bytes) 0 count (length (now row)) ⌝ }
+    ensures { λ r. ⌜ Joins (length (now (row .entry))) (cond (met (literalsAt (now (bytes .entry)) 0 count) (now (row .entry))) (rowIn (length (now (row .entry))) e) (join (sideOf high) (rowIn (length (now (row .entry))) e) (now (row .entry)))) r ⌝ }
 {
-    if met(bytes, count, row) {
+    if met(bytes, 0, count, row) {
         return e;
     }
     join(e, high, row)
 }
 
 // What the rows that do not meet the rule of the first `count` literals combine to.
-fn extreme(bytes: &[u8; 96], count: usize, high: bool, table: &[u8], l: usize) -> Joined
-    requires { ⌜ (1 ≤ l) × (l ≤ 16) × (count ≤ 32) × Known l (literalsAt (now bytes) 0 count) ⌝ }
-    ensures { λ r. ⌜ Joins l (extreme (side high) (literalsAt (now (bytes .entry)) 0 count) none (rowsOf l (now (table .entry)))) r ⌝ }
+fn extreme(bytes: &[u8], count: usize, high: bool, table: &[u8], l: usize) -> Joined
+    requires { ⌜ (1 ≤ l) × (l ≤ 16) × Askable (now bytes) 0 count l ⌝ }
+    ensures { λ r. ⌜ Joins l (extreme (sideOf high) (literalsAt (now (bytes .entry)) 0 count) none (rowsOf l (now (table .entry)))) r ⌝ }
 {
     let mut e = Joined {
         any: false,
@@ -150,8 +114,8 @@ fn either(a: bool, b: bool) -> bool
 }
 
 // The rule in hand with the literal at `p` of `bytes` as its last, if that one is kept.
-fn push_if(h: Hand, kept: bool, bytes: &[u8; 96], p: usize) -> Hand
-    requires { ⌜ Sane h × (h .count < 32) × (p + 3 ≤ 96) × (getD (now bytes) (p + 1) 0 < 2) ⌝ }
+fn push_if(h: Hand, kept: bool, bytes: &[u8], p: usize) -> Hand
+    requires { ⌜ Sane h × (h .count < 32) × (p + 3 ≤ length (now bytes)) × (getD (now bytes) (p + 1) 0 < 2) ⌝ }
     ensures { λ r. ⌜ Holding (ruleIn h ++ opt kept (literalAt (now (bytes .entry)) p)) r ⌝ }
 {
     if kept {
@@ -163,21 +127,23 @@ fn push_if(h: Hand, kept: bool, bytes: &[u8; 96], p: usize) -> Hand
 // The common literals of the rule and, if rows combined to a row, the first scarce one that holds in it.
 fn keep_for(h: Hand, high: bool, e: Joined, l: usize) -> Hand
     requires { ⌜ Sane h × (l ≤ 16) × Known l (ruleIn h) × (length (e .values) ≡ 16) ⌝ }
-    ensures { λ r. ⌜ Holding (keepFor (side high) (ruleIn h) (rowIn l e)) r ⌝ }
+    ensures { λ r. ⌜ Holding (keepFor (sideOf high) (ruleIn h) (rowIn l e)) r ⌝ }
 {
     let count = h.count;
     let bytes = h.bytes;
     let values = e.values;
     let any = e.any;
+    let lent: &[u8] = &bytes;
+    let row = &values[..l];
     let mut found = !any;
     let mut out = empty();
     let mut p: usize = 0;
     let mut j: usize = 0;
     while j < count {
-        let rare = scarce(&bytes, p, high);
-        let holds = holds(&bytes, p, &values[..l]);
+        let rare = scarce(lent, p, high);
+        let holds = holds_at(lent, p, row);
         let stays = chosen(rare, found, holds);
-        out = push_if(out, either(!rare, stays), &bytes, p);
+        out = push_if(out, either(!rare, stays), lent, p);
         found = either(found, stays);
         p += 3;
         j += 1;
@@ -189,11 +155,11 @@ fn keep_for(h: Hand, high: bool, e: Joined, l: usize) -> Hand
 // common literals and, if rows meet none of these, the first scarce one that holds in what those rows combine to.
 pub fn horn(h: Hand, high: bool, table: &[u8], l: usize) -> Hand
     requires { ⌜ Ready h l (now table) ⌝ }
-    ensures { λ r. ⌜ Holding (reduce (side high) (rowsOf l (now (table .entry))) (ruleIn h)) r ⌝ }
+    ensures { λ r. ⌜ Holding (reduce (sideOf high) (rowsOf l (now (table .entry))) (ruleIn h)) r ⌝ }
 {
     let count = h.count;
     let bytes = h.bytes;
-    if scarces(&bytes, count, high) < 2 {
+    if scarces(&bytes, 0, count, high) < 2 {
         return h;
     }
     let nothing = Joined {

@@ -6,7 +6,7 @@ use mathlib.Core.Path.{_≡_, refl, sym, ap, _∙_}
 use mathlib.Core.Bool.{Bool, true, false, cond, not, _||_}
 use mathlib.Core.List.{List, [], _∷_, _++_, append-nil, append-assoc}
 use mathlib.Core.Option.{none, some}
-use lib.ListN.{length, getD, take}
+use lib.ListN.{length, take}
 use lib.Seq.{length-take-le}
 use borrow.Author.Tests.{lt-ltb, le-ltb}
 use Rattle.meaning.specs.Lists.{opt}
@@ -16,9 +16,11 @@ use Rattle.meaning.specs.Bytes.{literalAt, literalsAt}
 use Rattle.meaning.specs.Families.{common, commonAnd, keepFor, extreme, reduce}
 use Rattle.reducing.specs.declared.Hand.{Hand}
 use Rattle.reducing.specs.declared.sides.Joined.{Joined}
-use Rattle.reducing.specs.Inner.{ruleIn, Sane, Holding, Known, rowIn, Joins, chosen}
+use Rattle.reducing.specs.Inner.{ruleIn, Sane, Holding, rowIn, Joins, chosen}
+use Rattle.literals.specs.Inner.{Known, Askable}
 use Rattle.reducing.proofs.laws.Hand.{rule-length, opt-count}
-use Rattle.reducing.proofs.laws.Known.{At, literals-on, literals-none, at-start, at-on, Left, left-start, left-on, left-known}
+use Rattle.literals.proofs.laws.Places.{At, literals-on, literals-none, at-start, at-on, Left, left-start, left-on}
+use Rattle.reducing.proofs.laws.Known.{sane-asked}
 
 -- what is kept of the literals left
 unfoldable pub keptOf : Side → Row → Bool → Rule → Rule
@@ -49,50 +51,51 @@ kept-for s m r false = refl
 pub prefix-length : (l : ℕ) (values : List ℕ) → l ≤ 16 → length values ≡ 16 → l ≡ length (take l values)
 prefix-length l values h n = sym (length-take-le l values (omega arith))
 
+-- a row of the values
+pub kept-asked : (h : Hand) (l : ℕ) (values : List ℕ) → Sane h → Known l (ruleIn h) → l ≤ 16 → length values ≡ 16
+    → Askable (h .bytes) 0 (h .count) (length (take l values))
+kept-asked h l values s k f n = rw (← prefix-length l values f n) (sane-asked s k)
+
 -- what is kept of the literals before number j is in out
-pub record KeptAt (s : Side) (l : ℕ) (b values : List ℕ) (start : Bool) (count : ℕ) (found : Bool) (out : Hand) (p j : ℕ) : Type 0 where
-  pub place : At count p j
-  pub left : Left l b count p j
+pub record KeptAt (s : Side) (m : Row) (b : List ℕ) (start : Bool) (count : ℕ) (found : Bool) (out : Hand) (p j : ℕ) : Type 0 where
+  pub place : At b 0 count p j
+  pub left : Left (length m) b count p j
   pub sane : Sane out
   pub few : out .count ≤ j
-  pub whole : keptOf s (take l values) start (literalsAt b 0 count) ≡ ruleIn out ++ keptOf s (take l values) found (literalsAt b p (count - j))
+  pub whole : keptOf s m start (literalsAt b 0 count) ≡ ruleIn out ++ keptOf s m found (literalsAt b p (count - j))
 
-module _ {s : Side} {l : ℕ} {b values : List ℕ} {start : Bool} {count : ℕ} where
-  pub kept-start : {out : Hand} → count ≤ 32 → Known l (literalsAt b 0 count) → Holding [] out → KeptAt s l b values start count start out 0 0
-  kept-start {out} f k e = record {
-    place = at-start f;
-    left = left-start k;
+module _ {s : Side} {m : Row} {b : List ℕ} {start : Bool} {count : ℕ} where
+  pub kept-start : {out : Hand} → Askable b 0 count (length m) → Holding [] out → KeptAt s m b start count start out 0 0
+  kept-start {out} a e = record {
+    place = at-start (a .inside);
+    left = left-start (a .known);
     sane = e .sane;
     few = omega (arith, rule-length out, ap length (e .rule));
     whole = rw (e .rule, sub-zero);
   }
 
-  module _ {found : Bool} {out : Hand} {p j : ℕ} (m : KeptAt s l b values start count found out p j) where
-    pub kept-on : {a t u k f : Bool} {next : Hand} → j < count → a ≡ scarce s (literalAt b p) → t ≡ holds (literalAt b p) (take l values)
-        → u ≡ chosen a found t → k ≡ (not a || u) → f ≡ (found || u) → Holding (ruleIn out ++ opt k (literalAt b p)) next
-        → KeptAt s l b values start count f next (p + 3) (j + 1)
-    kept-on {a} {t} {u} {k} {f} {next} h ea et eu ek ef e = record {
-      place = at-on (m .place) h;
-      left = left-on (m .left) h;
+  module _ {found : Bool} {out : Hand} {p j : ℕ} (k : KeptAt s m b start count found out p j) where
+    pub kept-on : {a t u g f : Bool} {next : Hand} → j < count → a ≡ scarce s (literalAt b p) → t ≡ holds (literalAt b p) m
+        → u ≡ chosen a found t → g ≡ (not a || u) → f ≡ (found || u) → Holding (ruleIn out ++ opt g (literalAt b p)) next
+        → KeptAt s m b start count f next (p + 3) (j + 1)
+    kept-on {a} {t} {u} {g} {f} {next} h ea et eu eg ef e = record {
+      place = at-on (k .place) h;
+      left = left-on (k .left) h;
       sane = e .sane;
-      few = omega (arith, m .few, opt-count out k (literalAt b p) next e);
-      whole = m .whole
-          ∙ rw (literals-on b count p j h, kept-cons, ← ea, ← et, ← eu, ← ek, ← ef, e .rule)
-          (sym (append-assoc (ruleIn out) (opt k (literalAt b p)) (keptOf s (take l values) f (literalsAt b (p + 3) (count - (j + 1))))));
+      few = omega (arith, k .few, opt-count out g (literalAt b p) next e);
+      whole = k .whole
+          ∙ rw (literals-on b count p j h, kept-cons, ← ea, ← et, ← eu, ← eg, ← ef, e .rule)
+          (sym (append-assoc (ruleIn out) (opt g (literalAt b p)) (keptOf s m f (literalsAt b (p + 3) (count - (j + 1))))));
     }
 
-    pub kept-room : j < count → out .count < 32
-    kept-room h = omega (arith, m .few, m .place .few)
+    pub kept-room : j < count → count ≤ 32 → out .count < 32
+    kept-room h f = omega (arith, k .few)
 
-    pub kept-known : j < count → l ≤ 16 → length values ≡ 16 → getD b p 0 < length (take l values)
-    kept-known h f n = rw (← prefix-length l values f n) (left-known (m .left) h)
-
-    pub kept-end : count ≤ j → (any : Bool) → start ≡ not any
-        → Holding (keepFor s (literalsAt b 0 count) (cond any (some (take l values)) none)) out
+    pub kept-end : count ≤ j → (any : Bool) → start ≡ not any → Holding (keepFor s (literalsAt b 0 count) (cond any (some m) none)) out
     kept-end h any e =
-        let all : keptOf s (take l values) (not any) (literalsAt b 0 count) ≡ ruleIn out =
-        rw (← e) (m .whole ∙ rw (literals-none b count p j h, kept-nil) (append-nil (ruleIn out))) in
-        record { sane = m .sane; rule = sym all ∙ kept-for s (take l values) (literalsAt b 0 count) any }
+        let all : keptOf s m (not any) (literalsAt b 0 count) ≡ ruleIn out =
+        rw (← e) (k .whole ∙ rw (literals-none b count p j h, kept-nil) (append-nil (ruleIn out))) in
+        record { sane = k .sane; rule = sym all ∙ kept-for s m (literalsAt b 0 count) any }
 
 known-common : (s : Side) (l : ℕ) (r : Rule) → Known l r → Known l (common s r)
 unfolding common

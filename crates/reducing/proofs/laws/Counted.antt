@@ -15,9 +15,10 @@ use Rattle.meaning.specs.Bytes.{literalAt, literalsAt}
 use Rattle.meaning.specs.Families.{trim}
 use Rattle.meaning.proofs.Tests.{case, is, isnt}
 use Rattle.reducing.specs.declared.Hand.{Hand}
-use Rattle.reducing.specs.Inner.{ruleIn, Sane, Holding, Known, change, one, counting, lowering, spare, Settled}
+use Rattle.reducing.specs.Inner.{ruleIn, Sane, Holding, change, counting, lowering, spare, Settled}
+use Rattle.literals.specs.Inner.{Askable, one}
 use Rattle.reducing.proofs.laws.Hand.{rule-length, append-count}
-use Rattle.reducing.proofs.laws.Known.{At, literals-on, literals-none, at-start, at-on, Left, left-start, left-on}
+use Rattle.literals.proofs.laws.Places.{At, literals-on, literals-none, at-start, at-on, Left, left-start, left-on}
 use Rattle.reducing.proofs.laws.Change.{change-length, change-on, change-none}
 use Rattle.reducing.proofs.laws.Pass.{rowsFrom, part, rows-on, rows-none}
 use Rattle.reducing.proofs.laws.Counts.{Counts, counts-anew, counts-without, trim-spare}
@@ -106,7 +107,7 @@ module _ {c : Literal} {rows : List Row} {ns : List ℕ} {out : Hand} {t : Bool}
 
 -- the literals before number j are gone through: what stays of them is in out
 pub record TrimAt (rows : List Row) (l : ℕ) (b : List ℕ) (count : ℕ) (ns : List ℕ) (out : Hand) (p j : ℕ) : Type 0 where
-  pub place : At count p j
+  pub place : At b 0 count p j
   pub left : Left l b count p j
   pub sane : Sane out
   pub few : out .count ≤ j
@@ -115,11 +116,11 @@ pub record TrimAt (rows : List Row) (l : ℕ) (b : List ℕ) (count : ℕ) (ns :
   pub long : length ns ≡ 512
 
 module _ {rows : List Row} {l : ℕ} {b : List ℕ} {count : ℕ} where
-  pub trim-start : (out : Hand) (old ns : List ℕ) → count ≤ 32 → Known l (literalsAt b 0 count) → Holding [] out → length old ≡ 512 → length rows ≤ 512
+  pub trim-start : (out : Hand) (old ns : List ℕ) → Askable b 0 count l → Holding [] out → length old ≡ 512 → length rows ≤ 512
       → ns ≡ change (counting (literalsAt b 0 count)) rows old → TrimAt rows l b count ns out 0 0
-  trim-start out old ns f k e n few m = record {
-    place = at-start f;
-    left = left-start k;
+  trim-start out old ns a e n few m = record {
+    place = at-start (a .inside);
+    left = left-start (a .known);
     sane = e .sane;
     few = omega (arith, rule-length out, ap length (e .rule));
     counts = rw (e .rule, sub-zero, m) (counts-anew (literalsAt b 0 count) rows old);
@@ -128,8 +129,8 @@ module _ {rows : List Row} {l : ℕ} {b : List ℕ} {count : ℕ} where
   }
 
   module _ {ns : List ℕ} {out : Hand} {p j : ℕ} (m : TrimAt rows l b count ns out p j) where
-    pub trim-room : j < count → out .count < 32
-    trim-room h = omega (arith, m .few, m .place .few)
+    pub trim-room : j < count → count ≤ 32 → out .count < 32
+    trim-room h f = omega (arith, m .few)
 
     pub trim-on : {next : List ℕ} {r : Hand} → j < count → length rows ≤ 512 → Settled (literalAt b p) rows ns next out r
         → TrimAt rows l b count next r (p + 3) (j + 1)

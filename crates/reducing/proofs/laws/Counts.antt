@@ -10,7 +10,8 @@ use borrow.Author.Tests.{eq-eqb, ne-eqb}
 use Rattle.meaning.specs.Rows.{Row}
 use Rattle.meaning.specs.Rules.{Literal, Rule, holds, met}
 use Rattle.meaning.specs.Families.{metByAll, trim}
-use Rattle.reducing.specs.Inner.{change, one, number, counting, lowering, spare}
+use Rattle.reducing.specs.Inner.{change, counting, lowering, spare}
+use Rattle.literals.specs.Inner.{one, number}
 
 -- the numbers of the rows are those of the rule
 abbrev pub Counts : Rule → List Row → List ℕ → Type 0

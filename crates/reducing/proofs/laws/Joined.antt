@@ -13,31 +13,32 @@ use Rattle.meaning.specs.Rules.{Rule, Side, met}
 use Rattle.meaning.specs.Families.{pick, both, join, extreme}
 use Rattle.meaning.proofs.Combined.{at-both, length-both}
 use Rattle.reducing.specs.declared.sides.Joined.{Joined}
-use Rattle.reducing.specs.Inner.{change, side, rowIn, Joins, picked}
+use Rattle.meaning.specs.Inner.{sideOf}
+use Rattle.reducing.specs.Inner.{change, rowIn, Joins, picked}
 use Rattle.reducing.proofs.laws.Change.{change-length, change-at, change-on, change-none}
 use Rattle.reducing.proofs.laws.Pass.{rowsFrom, part, part-length, rows-on, rows-none}
 
 -- ---- two values
 
 module _ (any t : Bool) (u v : ℕ) where
-  pub picked-first : any ≡ false → v ≡ picked any (side t) u v
+  pub picked-first : any ≡ false → v ≡ picked any (sideOf t) u v
   unfolding picked
   picked-first a = rw a
 
   module _ (a : any ≡ true) where
-    pub picked-high-less : t ≡ true → u < v → v ≡ picked any (side t) u v
+    pub picked-high-less : t ≡ true → u < v → v ≡ picked any (sideOf t) u v
     unfolding picked pick
     picked-high-less e h = rw (a, e) (omega arith)
 
-    pub picked-high : t ≡ true → v ≤ u → u ≡ picked any (side t) u v
+    pub picked-high : t ≡ true → v ≤ u → u ≡ picked any (sideOf t) u v
     unfolding picked pick
     picked-high e h = rw (a, e) (omega arith)
 
-    pub picked-low-less : t ≡ false → u < v → u ≡ picked any (side t) u v
+    pub picked-low-less : t ≡ false → u < v → u ≡ picked any (sideOf t) u v
     unfolding picked pick
     picked-low-less e h = rw (a, e) (omega arith)
 
-    pub picked-low : t ≡ false → v ≤ u → v ≡ picked any (side t) u v
+    pub picked-low : t ≡ false → v ≤ u → v ≡ picked any (sideOf t) u v
     unfolding picked pick
     picked-low e h = rw (a, e) (omega arith)
 

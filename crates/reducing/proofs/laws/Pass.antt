@@ -8,8 +8,7 @@ use mathlib.Core.List.{List, [], _∷_}
 use lib.ListN.{length, take, drop, length-take, length-drop}
 use lib.Seq.{drop-drop}
 use Rattle.meaning.specs.Rows.{Row, rowsIn, rowsOf}
-use Rattle.meaning.specs.Rules.{Rule}
-use Rattle.reducing.specs.Inner.{Known}
+use Rattle.literals.specs.Inner.{Askable}
 
 -- the rows from place at on
 abbrev pub rowsFrom : ℕ → List ℕ → ℕ → List Row
@@ -42,8 +41,8 @@ module _ (l : ℕ) (table : List ℕ) (at : ℕ) where
     pub part-few : l ≤ 16 → length (part l table at) ≤ 16
     part-few f = rw part-length f
 
-    pub part-known : (r : Rule) → Known l r → Known (length (part l table at)) r
-    part-known r k = rw part-length k
+    pub part-asked : (b : List ℕ) (start c : ℕ) → Askable b start c l → Askable b start c (length (part l table at))
+    part-asked b start c a = rw part-length a
 
     pub part-below : (i : ℕ) → i < l → i < length (part l table at)
     part-below i k = rw part-length k

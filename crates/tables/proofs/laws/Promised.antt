@@ -8,7 +8,7 @@ use mathlib.Core.Bool.{true, false, false≢true}
 use mathlib.Core.List.{List}
 use mathlib.Core.Option.{Option, none, some}
 use lib.ListN.{length}
-use Rattle.meaning.specs.Rows.{alike, at, ascending, allWithin, sound, rowsOf}
+use Rattle.meaning.specs.Rows.{alike, at, ascending, allWithin, sound, rowsOf, limits, Limited}
 use Rattle.meaning.specs.Closed.{orElse, unless}
 use Rattle.meaning.proofs.Tests.{is, isnt, case, and-r}
 use Rattle.meaning.proofs.Alike.{alike-length, alike-at}
@@ -17,9 +17,9 @@ use Rattle.tables.specs.declared.Flaw.{Flaw}
 use Rattle.tables.specs.declared.Flaw.the-variants.{Limits, Length, Rows, Value, Order}
 use Rattle.tables.specs.declared.Checked.{Checked}
 use Rattle.tables.specs.declared.Checked.the-variants.{Sound, Flawed}
-use Rattle.tables.specs.Check.{limits, Limited, flawOf, answer, checkedOf, Passes}
+use Rattle.tables.specs.Check.{flawOf, answer, checkedOf, Passes}
 use Rattle.tables.specs.Inner.{Ready}
-use Rattle.tables.proofs.laws.Refusals.{limits-hold}
+use Rattle.meaning.proofs.Limits.{limits-hold}
 use Rattle.tables.proofs.laws.Flaws.{Counted, Shows, flaw-none, flaw-some}
 
 -- what a refusal shows of a table of rows of l values below n

@@ -4,13 +4,13 @@ use Prim.Native.Nat.{_-_}
 use native.Mathlib.Omega.{arith}
 use lib.ListN.{length}
 use Rattle.meaning.specs.Rules.{holds}
-use Rattle.reducing.proofs.laws.Known.{at-fits, Left, left-start, left-on, left-known}
-use Rattle.reducing.proofs.laws.Number.{NumberAt, number-start, number-few, number-on, number-end}
+use Rattle.literals.proofs.laws.Places.{at-fits, Left, left-start, left-on, left-known}
+use Rattle.literals.proofs.laws.Number.{NumberAt, number-start, number-few, number-on, number-end}
 use Rattle.reducing.proofs.counts.number.Statement.{statement}
 use Rattle.reducing.proofs.counts.number.Tie as tie
 
 abbrev Inv-loop : tie.InvT-loop
-Inv-loop bytes count row k₀ p₀ j₀ k p j = NumberAt (λ c. holds c row) bytes count k p j × Left (length row) bytes count p j
+Inv-loop bytes count row k₀ p₀ j₀ k p j = NumberAt (λ c. holds c row) bytes 0 count k p j × Left (length row) bytes count p j
 
 abbrev μ-loop : tie.MeasureT-loop
 μ-loop bytes count row k₀ p₀ j₀ k p j = count - j

@@ -13,20 +13,20 @@ lower-requires c κs = search needs
 returns : tie.Need-returns
 returns c = search settled-yes
 
-element-copy-out-push : tie.Need-element-copy-out-push
-element-copy-out-push c = search needs
+shared-slice-read-push : tie.Need-shared-slice-read-push
+shared-slice-read-push c = search needs
 
 add-push : tie.Need-add-push
 add-push c = search needs
 
-element-copy-out-push-2 : tie.Need-element-copy-out-push-2
-element-copy-out-push-2 c = search needs
+shared-slice-read-push-2 : tie.Need-shared-slice-read-push-2
+shared-slice-read-push-2 c = search needs
 
 add-push-2 : tie.Need-add-push-2
 add-push-2 c = search needs
 
-element-copy-out-push-3 : tie.Need-element-copy-out-push-3
-element-copy-out-push-3 c = search needs
+shared-slice-read-push-3 : tie.Need-shared-slice-read-push-3
+shared-slice-read-push-3 c = search needs
 
 push-requires : tie.Need-push-requires
 push-requires c κs = search needs
@@ -41,10 +41,10 @@ settle-spec =
     spare-requires
     lower-requires
     returns
-    element-copy-out-push
+    shared-slice-read-push
     add-push
-    element-copy-out-push-2
+    shared-slice-read-push-2
     add-push-2
-    element-copy-out-push-3
+    shared-slice-read-push-3
     push-requires
     returns-2)

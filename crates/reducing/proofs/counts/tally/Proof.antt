@@ -3,7 +3,7 @@ use borrow.Author.Needs.{needs}
 use Prim.Native.Nat.{_-_}
 use lib.ListN.{length}
 use Rattle.meaning.specs.Bytes.{literalsAt}
-use Rattle.reducing.proofs.laws.Pass.{part-known}
+use Rattle.reducing.proofs.laws.Pass.{part-asked}
 use Rattle.reducing.specs.Inner.{counting}
 use Rattle.reducing.proofs.laws.Counted.{ChangeAt, change-start, change-turn, change-end, pass-room}
 use Rattle.reducing.proofs.counts.tally.Statement.{statement}
@@ -34,7 +34,7 @@ part-number-end : tie.Need-part-number-end Inv-loop μ-loop
 part-number-end c = search needs
 
 number-requires : tie.Need-number-requires Inv-loop μ-loop
-number-requires c κs = search (part-known, needs)
+number-requires c κs = search (part-asked, needs)
 
 element-write-counts : tie.Need-element-write-counts Inv-loop μ-loop
 element-write-counts c = search pass-room

@@ -1,9 +1,10 @@
 -- `reducing::counts::trim` meets its contract. The invariant: what stays of the literals passed is in hand, and the numbers are those of what is left (TrimAt).
-use borrow.Author.Needs.{needs}
 use Prim.Native.Nat.{_-_}
 use Rattle.meaning.specs.Rows.{rowsOf}
-use Rattle.reducing.proofs.laws.Known.{at-fits, sign-at, left-known}
+use Rattle.literals.proofs.laws.Places.{at-fits, left-known}
+use Rattle.reducing.proofs.laws.Known.{sane-asked, sign-at}
 use Rattle.reducing.proofs.laws.Counted.{TrimAt, trim-start, trim-room, trim-on, trim-end}
+use borrow.Author.Needs.{needs}
 use Rattle.reducing.proofs.counts.trim.Statement.{statement}
 use Rattle.reducing.proofs.counts.trim.Tie as tie
 
@@ -13,26 +14,23 @@ Inv-loop table l count bytes counts₀ out₀ p₀ j₀ counts out p j = TrimAt 
 abbrev μ-loop : tie.MeasureT-loop
 μ-loop table l count bytes counts₀ out₀ p₀ j₀ counts out p j = count - j
 
+slice-aggregate-tally : tie.Need-slice-aggregate-tally Inv-loop μ-loop
+slice-aggregate-tally c = search needs
+
 tally-requires : tie.Need-tally-requires Inv-loop μ-loop
-tally-requires c κs = search needs
+tally-requires c κs = search (sane-asked, needs)
 
 empty-requires : tie.Need-empty-requires Inv-loop μ-loop
 empty-requires c κs = search needs
 
 loop-holds : tie.Need-loop-holds Inv-loop μ-loop
-loop-holds c = search (trim-start, needs)
+loop-holds c = search (trim-start, sane-asked, needs)
+
+slice-aggregate-settle : tie.Need-slice-aggregate-settle Inv-loop μ-loop
+slice-aggregate-settle c = search needs
 
 settle-requires : tie.Need-settle-requires Inv-loop μ-loop
-settle-requires c κs = (
-  search needs,
-  search trim-room,
-  search needs,
-  search needs,
-  search needs,
-  search at-fits,
-  search left-known,
-  search sign-at,
-)
+settle-requires c κs = (search needs, search trim-room, search needs, search needs, search needs, search at-fits, search left-known, search sign-at)
 
 add-p : tie.Need-add-p Inv-loop μ-loop
 add-p c = search needs
@@ -55,9 +53,11 @@ trim-spec =
     (tie.spec
     Inv-loop
     μ-loop
+    slice-aggregate-tally
     tally-requires
     empty-requires
     loop-holds
+    slice-aggregate-settle
     settle-requires
     add-p
     add-j

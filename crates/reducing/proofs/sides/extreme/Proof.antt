@@ -3,14 +3,14 @@ use borrow.Author.Needs.{needs}
 use Prim.Native.Nat.{_-_}
 use lib.ListN.{length}
 use Rattle.meaning.specs.Bytes.{literalsAt}
-use Rattle.reducing.proofs.laws.Pass.{part-few, part-known}
-use Rattle.reducing.specs.Inner.{side}
+use Rattle.reducing.proofs.laws.Pass.{part-few, part-asked}
+use Rattle.meaning.specs.Inner.{sideOf}
 use Rattle.reducing.proofs.laws.Joined.{ExtremeAt, extreme-start, extreme-on, extreme-end}
 use Rattle.reducing.proofs.sides.extreme.Statement.{statement}
 use Rattle.reducing.proofs.sides.extreme.Tie as tie
 
 abbrev Inv-loop : tie.InvT-loop
-Inv-loop bytes count high table l e₀ at₀ e at = ExtremeAt (side high) (literalsAt bytes 0 count) l table e at
+Inv-loop bytes count high table l e₀ at₀ e at = ExtremeAt (sideOf high) (literalsAt bytes 0 count) l table e at
 
 abbrev μ-loop : tie.MeasureT-loop
 μ-loop bytes count high table l e₀ at₀ e at = length table - at
@@ -34,7 +34,7 @@ part-pass-end : tie.Need-part-pass-end Inv-loop μ-loop
 part-pass-end c = search needs
 
 pass-requires : tie.Need-pass-requires Inv-loop μ-loop
-pass-requires c κs = search (part-few, part-known, needs)
+pass-requires c κs = search (part-few, part-asked, needs)
 
 loop-less : tie.Need-loop-less Inv-loop μ-loop
 loop-less c = search needs

@@ -2,13 +2,13 @@
 use borrow.Author.Needs.{needs}
 use Prim.Native.Nat.{_-_}
 use lib.ListN.{length}
-use Rattle.reducing.specs.Inner.{side}
+use Rattle.meaning.specs.Inner.{sideOf}
 use Rattle.reducing.proofs.laws.Joined.{JoinAt, join-start, join-on, join-end}
 use Rattle.reducing.proofs.sides.join.Statement.{statement}
 use Rattle.reducing.proofs.sides.join.Tie as tie
 
 abbrev Inv-loop : tie.InvT-loop
-Inv-loop high row any values₀ i₀ values i = JoinAt any (side high) row values₀ values i
+Inv-loop high row any values₀ i₀ values i = JoinAt any (sideOf high) row values₀ values i
 
 abbrev μ-loop : tie.MeasureT-loop
 μ-loop high row any values₀ i₀ values i = length row - i

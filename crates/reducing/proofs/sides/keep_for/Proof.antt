@@ -1,35 +1,39 @@
 -- `reducing::sides::keep_for` meets its contract. The invariant: what is kept of the literals passed is in hand (KeptAt).
-use borrow.Author.Needs.{needs}
 use Prim.Native.Nat.{_-_}
-use Rattle.reducing.proofs.laws.Known.{at-fits, sign-at}
-use Rattle.reducing.specs.Inner.{side}
-use Rattle.reducing.proofs.laws.Chosen.{KeptAt, kept-start, kept-on, kept-room, kept-known, kept-end, prefix-length}
+use Rattle.meaning.specs.Inner.{sideOf}
+use Rattle.literals.proofs.laws.Places.{at-fits, left-known}
+use Rattle.reducing.proofs.laws.Known.{sign-at}
+use Rattle.reducing.proofs.laws.Chosen.{prefix-length, kept-asked, KeptAt, kept-start, kept-on, kept-room, kept-end}
+use borrow.Author.Needs.{needs}
 use Rattle.reducing.proofs.sides.keep_for.Statement.{statement}
 use Rattle.reducing.proofs.sides.keep_for.Tie as tie
 
 abbrev Inv-loop : tie.InvT-loop
-Inv-loop high l count bytes values any found₀ out₀ p₀ j₀ found out p j = KeptAt (side high) l bytes values found₀ count found out p j
+Inv-loop high l count any lent row found₀ out₀ p₀ j₀ found out p j = KeptAt (sideOf high) row lent found₀ count found out p j
 
 abbrev μ-loop : tie.MeasureT-loop
-μ-loop high l count bytes values any found₀ out₀ p₀ j₀ found out p j = count - j
+μ-loop high l count any lent row found₀ out₀ p₀ j₀ found out p j = count - j
+
+slice-aggregate-lent : tie.Need-slice-aggregate-lent Inv-loop μ-loop
+slice-aggregate-lent c = search needs
+
+array-share-prefix-values : tie.Need-array-share-prefix-values Inv-loop μ-loop
+array-share-prefix-values c = search needs
+
+slice-aggregate-row : tie.Need-slice-aggregate-row Inv-loop μ-loop
+slice-aggregate-row c = search prefix-length
 
 empty-requires : tie.Need-empty-requires Inv-loop μ-loop
 empty-requires c κs = search needs
 
 loop-holds : tie.Need-loop-holds Inv-loop μ-loop
-loop-holds c = search kept-start
+loop-holds c = search (kept-start, kept-asked)
 
 scarce-requires : tie.Need-scarce-requires Inv-loop μ-loop
 scarce-requires c κs = search at-fits
 
-array-share-prefix-values : tie.Need-array-share-prefix-values Inv-loop μ-loop
-array-share-prefix-values c = search needs
-
-slice-aggregate-holds : tie.Need-slice-aggregate-holds Inv-loop μ-loop
-slice-aggregate-holds c = search prefix-length
-
-holds-requires : tie.Need-holds-requires Inv-loop μ-loop
-holds-requires c κs = search (at-fits, kept-known)
+holds-at-requires : tie.Need-holds-at-requires Inv-loop μ-loop
+holds-at-requires c κs = search (at-fits, left-known)
 
 chosen-requires : tie.Need-chosen-requires Inv-loop μ-loop
 chosen-requires c κs = search needs
@@ -64,12 +68,13 @@ keep-for-spec =
     (tie.spec
     Inv-loop
     μ-loop
+    slice-aggregate-lent
+    array-share-prefix-values
+    slice-aggregate-row
     empty-requires
     loop-holds
     scarce-requires
-    array-share-prefix-values
-    slice-aggregate-holds
-    holds-requires
+    holds-at-requires
     chosen-requires
     either-requires
     push-if-requires

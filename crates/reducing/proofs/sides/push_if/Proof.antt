@@ -4,20 +4,20 @@ use borrow.Author.Needs.{needs}
 use Rattle.reducing.proofs.sides.push_if.Statement.{statement}
 use Rattle.reducing.proofs.sides.push_if.Tie as tie
 
-element-copy-out-push : tie.Need-element-copy-out-push
-element-copy-out-push c = search needs
+shared-slice-read-push : tie.Need-shared-slice-read-push
+shared-slice-read-push c = search needs
 
 add-push : tie.Need-add-push
 add-push c = search needs
 
-element-copy-out-push-2 : tie.Need-element-copy-out-push-2
-element-copy-out-push-2 c = search needs
+shared-slice-read-push-2 : tie.Need-shared-slice-read-push-2
+shared-slice-read-push-2 c = search needs
 
 add-push-2 : tie.Need-add-push-2
 add-push-2 c = search needs
 
-element-copy-out-push-3 : tie.Need-element-copy-out-push-3
-element-copy-out-push-3 c = search needs
+shared-slice-read-push-3 : tie.Need-shared-slice-read-push-3
+shared-slice-read-push-3 c = search needs
 
 push-requires : tie.Need-push-requires
 push-requires c κs = search needs
@@ -32,11 +32,11 @@ pub push-if-spec : {M : Type 1} → statement M
 push-if-spec =
     tie.close
     (tie.spec
-    element-copy-out-push
+    shared-slice-read-push
     add-push
-    element-copy-out-push-2
+    shared-slice-read-push-2
     add-push-2
-    element-copy-out-push-3
+    shared-slice-read-push-3
     push-requires
     returns
     returns-2)
