@@ -15,5 +15,4 @@ pub mod First
 pub mod Asked
 pub mod Tested
 pub mod Judged
-pub mod Faults
 pub mod Written
