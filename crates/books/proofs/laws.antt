@@ -1,5 +1,4 @@
 pub mod Fields
-pub mod Limits
 pub mod Literals
 pub mod Idle
 pub mod Rules
@@ -11,10 +10,9 @@ pub mod Part
 pub mod Head
 pub mod Put
 pub mod Records
-pub mod Signs
+pub mod Family
 pub mod First
 pub mod Asked
 pub mod Tested
 pub mod Judged
-pub mod Faults
 pub mod Written

@@ -1,24 +1,13 @@
 -- Inner: the words that only inner contracts cite.
-use Prim.Native.Nat.{ℕ, _≤_, _<_, _+_, _/_, _*_}
+use Prim.Native.Nat.{ℕ, _≤_, _+_, _/_}
 use mathlib.Core.List.{List, [], _∷_, _++_}
 use mathlib.Core.Bool.{Bool, false, _||_, cond}
 use mathlib.Core.Path.{_≡_}
-use lib.ListN.{length, getD, drop, take}
+use lib.ListN.{length, drop, take}
 use lib.Dec.{leb}
-use Rattle.meaning.specs.Rules.{Rule, overlap, AllGood, high, scarce, scarces, AllFit}
+use Rattle.meaning.specs.Rules.{Rule, overlap, AllGood}
 use Rattle.meaning.specs.Rows.{Sizes, Row}
-use Rattle.meaning.specs.Bytes.{rulesAt, placeAt, encodeRules, encodeEnd, endAt, literalAt, literalsAt}
-
--- what the reader of a head has shown of n and l
-pub record Sized (n l : ℕ) : Type 0 where
-  pub some : 0 < n
-  pub few : l ≤ 16
-  pub small : n ≤ 64
-
--- what the code asks of the sizes that are lent to it: none is 0, and there are at most sixteen
-pub record Limits (ns : List ℕ) : Type 0 where
-  pub some : (i : ℕ) → i < length ns → 0 < getD ns i 0
-  pub few : length ns ≤ 16
+use Rattle.meaning.specs.Bytes.{rulesAt, placeAt, encodeRules, encodeEnd, endAt}
 
 -- some literal overlaps with the one after it
 unfoldable pub idleNext : Rule → Bool
@@ -53,24 +42,7 @@ pub record Puts (old new : List ℕ) (at : ℕ) (bytes : List ℕ) (next : ℕ) 
 unfoldable pub ruleRecord : List ℕ → List ℕ
 ruleRecord literals = 82 ∷ 85 ∷ length literals / 3 ∷ literals
 
--- ---- one literal: 1 if it is negative, else 0
-pub record NegativeAt (b : List ℕ) (p r : ℕ) : Type 0 where
-  pub is : r ≡ cond (scarce high (literalAt b p)) 1 0
-  pub small : r ≤ 1
-
--- k of the c literals are negative
-pub record Signs (b : List ℕ) (start c k : ℕ) : Type 0 where
-  pub count : k ≡ scarces high (literalsAt b start c)
-  pub few : k ≤ c
-
--- ---- c literals from `start` on that may be asked of x: they are inside the book, on settings that x has
-pub record Askable (b : List ℕ) (start c : ℕ) (x : Row) : Type 0 where
-  pub ns : Sizes
-  pub inside : start + 3 * c ≤ length b
-  pub fit : AllFit ns (literalsAt b start c)
-  pub long : length x ≡ length ns
-
--- ---- k rules from p on that may be asked of x
+-- k rules from p on that may be asked of x
 pub record Testable (b : List ℕ) (x : Row) (p k : ℕ) : Type 0 where
   pub ns : Sizes
   pub family : ℕ

@@ -1,18 +1,10 @@
-// The fields of a book's records: a mark, a byte, two bytes; and a number as a byte.
+// The fields of a book's records: a mark, a byte, two bytes.
 use crate::Fault;
 use crate::Got;
 ghost use mathlib.Core.Path.{_≡_};
-ghost use Prim.Native.Nat.{_+_, _*_, _≤_, _<_};
+ghost use Prim.Native.Nat.{_+_, _*_, _≤_};
 ghost use lib.ListN.{length};
 ghost use Rattle.books.specs.Format.{markOf, fieldOf, wordOf};
-
-// A number that fits a byte, as a byte.
-pub fn byte(x: usize) -> u8
-    requires { ⌜ x < 256 ⌝ }
-    ensures { λ r. ⌜ r ≡ x ⌝ }
-{
-    x as u8
-}
 
 // The mark 'R' m at place p. Gives the place after it.
 pub fn mark(book: &[u8], p: usize, m: u8) -> Got

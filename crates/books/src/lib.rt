@@ -1,12 +1,11 @@
 // The book in bytes: reading it, a rule as a part of it, testing a combination against it, and writing its records.
 mod fields;
-mod literals;
+mod literal_fields;
 mod part;
 mod reader;
 mod records;
 mod rules;
 mod tester;
-mod walk;
 
 pub use part::RulePart;
 pub use part::rule;
@@ -16,8 +15,6 @@ pub use records::put_end;
 pub use records::put_head;
 pub use records::put_rule;
 pub use tester::test;
-pub use walk::rule_end;
-pub use walk::rule_met;
 
 // What is wrong with a book, and at which place: refusals 9 to 15.
 pub enum Fault {

@@ -1,7 +1,7 @@
 // A rule of a book by its number, as that part of the lent book itself.
 use crate::Reading;
 use crate::reader::read;
-use crate::walk::rule_end;
+use literals::rule_end;
 ghost use mathlib.Core.Path.{_≡_};
 ghost use Prim.Native.Nat.{_<_};
 ghost use Rattle.books.specs.Format.{readOf};

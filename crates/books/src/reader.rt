@@ -2,31 +2,30 @@
 use crate::Fault;
 use crate::Got;
 use crate::Reading;
-use crate::fields::byte;
 use crate::fields::field;
 use crate::fields::mark;
 use crate::fields::word;
 use crate::rules::rules;
+use literals::narrow;
 ghost use mathlib.Core.Path.{_≡_};
 ghost use Prim.Native.Nat.{_≤_};
 ghost use lib.ListN.{length};
-ghost use Rattle.meaning.specs.Rows.{alike};
+ghost use Rattle.meaning.specs.Rows.{alike, Limited};
 ghost use Rattle.books.specs.Format.{rulesOf, tailOf, restOf, readOf};
-ghost use Rattle.books.specs.Inner.{Sized};
 
 // The rules, over l settings of n values each.
 fn rules_alike(book: &[u8], n: usize, l: usize, family: usize, count: usize) -> Got
-    requires { ⌜ Sized n l × (7 ≤ length (now book)) ⌝ }
+    requires { ⌜ Limited n l × (7 ≤ length (now book)) ⌝ }
     ensures { λ r. ⌜ r ≡ rulesOf (now (book .entry)) (alike n l) family 7 count ⌝ }
 {
-    let space = [byte(n); 16];
+    let space = [narrow(n); 16];
     let sizes = &space[..l];
     rules(book, sizes, family, 7, count)
 }
 
 // After the head: the rules, the end, and nothing more.
 fn tail(book: &[u8], n: usize, l: usize, family: usize, count: usize) -> Reading
-    requires { ⌜ Sized n l × (7 ≤ length (now book)) ⌝ }
+    requires { ⌜ Limited n l × (7 ≤ length (now book)) ⌝ }
     ensures { λ r. ⌜ r ≡ tailOf (now (book .entry)) n l family count ⌝ }
 {
     let end = match rules_alike(book, n, l, family, count) {
@@ -54,7 +53,7 @@ fn tail(book: &[u8], n: usize, l: usize, family: usize, count: usize) -> Reading
 
 // After n and l: the family, the number of rules, and what follows.
 fn rest(book: &[u8], n: usize, l: usize) -> Reading
-    requires { ⌜ Sized n l ⌝ }
+    requires { ⌜ Limited n l ⌝ }
     ensures { λ r. ⌜ r ≡ restOf (now (book .entry)) n l ⌝ }
 {
     let family = match field(book, 0, 4, 0, 4) {

@@ -1,8 +1,7 @@
 // Writing a book's records: each over the room from a place on where it fits, else nothing is written.
 // A writer gives the place after the record in either case, so that a run over no room measures.
-use crate::fields::byte;
+use literals::narrow;
 ghost use mathlib.Core.Path.{_≡_};
-ghost use mathlib.Core.List.{[], _∷_};
 ghost use Prim.Native.Nat.{_+_, _≤_, _<_};
 ghost use lib.ListN.{length};
 ghost use Rattle.meaning.specs.Bytes.{encodeHead, encodeEnd};
@@ -41,11 +40,11 @@ pub fn put_head(room: &mut [u8], n: usize, l: usize, family: usize, rules: usize
     let head = [
         82,
         66,
-        byte(n),
-        byte(l),
-        byte(family),
-        byte(rules / 256),
-        byte(rules % 256),
+        narrow(n),
+        narrow(l),
+        narrow(family),
+        narrow(rules / 256),
+        narrow(rules % 256),
     ];
     put(room, 0, &head)
 }
@@ -60,7 +59,7 @@ pub fn put_rule(room: &mut [u8], at: usize, literals: &[u8]) -> usize
     if room.len() < next {
         return next;
     }
-    let mark = [82, 85, byte(literals.len() / 3)];
+    let mark = [82, 85, narrow(literals.len() / 3)];
     copy(room, at, &mark);
     copy(room, start, literals);
     next

@@ -3,14 +3,16 @@ use crate::Fault;
 use crate::Got;
 use crate::fields::field;
 use crate::fields::mark;
-use crate::literals::literals;
+use crate::literal_fields::literals;
+use literals::scarces;
 ghost use mathlib.Core.Path.{_≡_};
 ghost use Prim.Native.Nat.{_+_, _*_, _≤_, _<_};
 ghost use lib.ListN.{length};
 ghost use Rattle.meaning.specs.Rules.{covers, overlap, inFamily};
 ghost use Rattle.meaning.specs.Bytes.{literalAt, literalsAt};
+ghost use Rattle.meaning.specs.Inner.{Sized};
 ghost use Rattle.books.specs.Format.{bodyOf, ruleOf, rulesOf};
-ghost use Rattle.books.specs.Inner.{Limits, idleNext, NegativeAt, Signs};
+ghost use Rattle.books.specs.Inner.{idleNext};
 
 // Do 'at most a' and 'at least b' on one setting make a rule idle?
 fn covered(a: u8, b: u8) -> bool
@@ -55,34 +57,6 @@ fn idle(book: &[u8], start: usize, c: usize) -> bool
     false
 }
 
-// 1 for the literal 'at most', 0 for 'at least'.
-fn negative(book: &[u8], p: usize) -> usize
-    requires { ⌜ p + 3 ≤ length (now book) ⌝ }
-    ensures { λ r. ⌜ NegativeAt (now (book .entry)) p r ⌝ }
-{
-    if book[p + 1] == 0 {
-        return 1;
-    }
-    0
-}
-
-// How many of the c literals from `start` on are negative.
-fn negatives(book: &[u8], start: usize, c: usize) -> usize
-    requires { ⌜ start + 3 * c ≤ length (now book) ⌝ }
-    ensures { λ r. ⌜ Signs (now (book .entry)) start c r ⌝ }
-{
-    let mut p = start;
-    let mut i: usize = 0;
-    let mut k: usize = 0;
-    while i < c {
-        let one = negative(book, p);
-        k += one;
-        p += 3;
-        i += 1;
-    }
-    k
-}
-
 // Is the rule of the c literals from `start` on in the family?
 fn kept(book: &[u8], start: usize, c: usize, family: usize) -> bool
     requires { ⌜ start + 3 * c ≤ length (now book) ⌝ }
@@ -94,16 +68,13 @@ fn kept(book: &[u8], start: usize, c: usize, family: usize) -> bool
     if 2 < family {
         return c < 3;
     }
-    let k = negatives(book, start, c);
-    if family == 1 {
-        return c - k < 2;
-    }
-    k < 2
+    let few = scarces(book, start, c, family == 2);
+    few < 2
 }
 
 // The c literals of the rule at `from`, and the rule as a whole. Gives the place after it.
 fn body(book: &[u8], sizes: &[u8], family: usize, from: usize, c: usize) -> Got
-    requires { ⌜ Limits (now sizes) × (from + 3 ≤ length (now book)) ⌝ }
+    requires { ⌜ Sized (now sizes) × (from + 3 ≤ length (now book)) ⌝ }
     ensures { λ r. ⌜ r ≡ bodyOf (now (book .entry)) (now (sizes .entry)) family from c ⌝ }
 {
     let end = match literals(book, sizes, from, c) {
@@ -125,7 +96,7 @@ fn body(book: &[u8], sizes: &[u8], family: usize, from: usize, c: usize) -> Got
 
 // The rule at `from`. Gives the place after it.
 fn rule(book: &[u8], sizes: &[u8], family: usize, from: usize) -> Got
-    requires { ⌜ Limits (now sizes) × (from ≤ length (now book)) ⌝ }
+    requires { ⌜ Sized (now sizes) × (from ≤ length (now book)) ⌝ }
     ensures { λ r. ⌜ r ≡ ruleOf (now (book .entry)) (now (sizes .entry)) family from ⌝ }
 {
     let m = match mark(book, from, 85) {
@@ -146,7 +117,7 @@ fn rule(book: &[u8], sizes: &[u8], family: usize, from: usize) -> Got
 
 // As many rules as `count` from `start` on. Gives the place after them.
 pub fn rules(book: &[u8], sizes: &[u8], family: usize, start: usize, count: usize) -> Got
-    requires { ⌜ Limits (now sizes) × (start ≤ length (now book)) ⌝ }
+    requires { ⌜ Sized (now sizes) × (start ≤ length (now book)) ⌝ }
     ensures { λ r. ⌜ r ≡ rulesOf (now (book .entry)) (now (sizes .entry)) family start count ⌝ }
 {
     let mut p = start;

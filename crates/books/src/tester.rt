@@ -1,16 +1,15 @@
 // Testing a combination against a book: book faults, its length, its values, then the rules.
 use crate::Reading;
 use crate::Tested;
-use crate::fields::byte;
 use crate::reader::read;
-use crate::walk::rule_end;
-use crate::walk::rule_met;
+use literals::narrow;
+use literals::rule_end;
+use literals::rule_met;
 ghost use mathlib.Core.Path.{_≡_};
-ghost use Prim.Native.Nat.{_≤_};
 ghost use lib.ListN.{length};
-ghost use Rattle.meaning.specs.Rows.{alike};
+ghost use Rattle.meaning.specs.Rows.{alike, Limited};
 ghost use Rattle.meaning.specs.Bytes.{rulesAt};
-ghost use Rattle.books.specs.Inner.{Sized, Testable, Walkable};
+ghost use Rattle.books.specs.Inner.{Testable, Walkable};
 ghost use Rattle.books.specs.Tested.{judgeOf, testedOf, firstUnmet, firstOver};
 
 // The place of the first value that is not below its setting's size; the number of values, where all are.
@@ -67,10 +66,10 @@ fn judge(book: &[u8], sizes: &[u8], rules: usize, combination: &[u8]) -> Tested
 
 // The same over l settings of n values each.
 fn judge_alike(book: &[u8], n: usize, l: usize, rules: usize, combination: &[u8]) -> Tested
-    requires { ⌜ Sized n l × Walkable (now book) (alike n l) rules ⌝ }
+    requires { ⌜ Limited n l × Walkable (now book) (alike n l) rules ⌝ }
     ensures { λ r. ⌜ r ≡ judgeOf (alike n l) (rulesAt (now (book .entry)) 7 rules) (now (combination .entry)) ⌝ }
 {
-    let space = [byte(n); 16];
+    let space = [narrow(n); 16];
     let sizes = &space[..l];
     judge(book, sizes, rules, combination)
 }

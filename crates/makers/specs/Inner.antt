@@ -5,8 +5,8 @@ use mathlib.Core.List.{List, [], _∷_, map, _++_}
 use mathlib.Core.Bool.{Bool}
 use lib.ListN.{length, drop}
 use lib.Dec.{ltb, T}
-use Rattle.hand.specs.declared.Hand.{Hand}
-use Rattle.hand.specs.Inner.{Sane}
+use Rattle.reducing.specs.declared.Hand.{Hand}
+use Rattle.reducing.specs.Inner.{Sane}
 use Rattle.meaning.specs.Rows.{Row, Sizes, at, rowsOf, sound}
 use Rattle.meaning.specs.Rules.{Rule}
 use Rattle.meaning.specs.Families.{reduceFor, rulesFor}

@@ -1,5 +1,4 @@
 // What differs from a row before a setting, in hand.
-ghost use mathlib.Core.Path.{_≡_};
 ghost use mathlib.Core.List.{_++_};
 ghost use Prim.Native.Nat.{_+_, _-_, _≤_, _<_};
 ghost use lib.Dec.{ltb};
@@ -7,19 +6,12 @@ ghost use lib.ListN.{length};
 ghost use Rattle.meaning.specs.Lists.{opt};
 ghost use Rattle.meaning.specs.Rules.{atMost, atLeast};
 ghost use Rattle.meaning.specs.General.{differs, earlier};
-ghost use Rattle.hand.specs.Inner.{ruleIn, Holding};
+ghost use Rattle.reducing.specs.Inner.{ruleIn, Holding};
 ghost use Rattle.makers.specs.Inner.{Spare};
-use hand::Hand;
-use hand::empty;
-use hand::push;
-
-// A setting or a size as a byte.
-pub fn byte(i: usize) -> u8
-    requires { ⌜ i < 256 ⌝ }
-    ensures { λ r. ⌜ r ≡ i ⌝ }
-{
-    i as u8
-}
+use literals::narrow;
+use reducing::Hand;
+use reducing::empty;
+use reducing::push;
 
 // The rule in hand, or setting i at most v-1, where v is above 0.
 fn under(h: Hand, i: u8, v: u8) -> Hand
@@ -64,7 +56,7 @@ pub fn differs_before(sizes: &[u8], row: &[u8], end: usize) -> Hand
     let mut h = empty();
     let mut i: usize = 0;
     while i < end {
-        h = differ(h, byte(i), sizes[i], row[i]);
+        h = differ(h, narrow(i), sizes[i], row[i]);
         i += 1;
     }
     h

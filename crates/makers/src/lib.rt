@@ -6,8 +6,8 @@ mod sending;
 mod slots;
 mod writing;
 
-use crate::earlier::byte;
 use crate::writing::book;
+use literals::narrow;
 use tables::Checked;
 use tables::Closure;
 use tables::Flaw;
@@ -39,7 +39,7 @@ fn make_alike(n: usize, l: usize, family: usize, table: &[u8], room: &mut [u8]) 
     requires { ⌜ Passes n l (now table) (length (now table) / l) × (family ≤ 3) ⌝ }
     ensures { λ r. ⌜ _≡_ {A = Made × List ℕ} (r, now (room .exit)) (bookAlike n l family (now (table .entry)) (now (room .entry))) ⌝ }
 {
-    let space = [byte(n); 16];
+    let space = [narrow(n); 16];
     let sizes = &space[..l];
     book(n, sizes, family, table, room)
 }

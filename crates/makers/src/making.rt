@@ -1,5 +1,4 @@
 // The rules of a table, sent row by row: left, right and middle of each.
-use crate::earlier::byte;
 use crate::earlier::differs_before;
 use crate::rows::fork;
 use crate::rows::row;
@@ -9,8 +8,9 @@ use crate::sending::send;
 use crate::slots::apart;
 use crate::slots::edges;
 use crate::slots::slot;
-use hand::empty;
-use hand::push;
+use literals::narrow;
+use reducing::empty;
+use reducing::push;
 ghost use Prim.Native.Nat.{_+_, _/_, _<_};
 ghost use lib.ListN.{length};
 ghost use Rattle.makers.specs.Inner.{Countable, Apart, SentBetween, Given, SentMiddle, SentRow, SentAll};
@@ -30,7 +30,7 @@ fn between(
     ensures { λ r. ⌜ SentBetween (now (sizes .entry)) (now (table .entry)) (now (low .entry)) (now (high .entry)) i family tally (now (room .entry)) r (now (room .exit)) ⌝ }
 {
     let before = differs_before(sizes, low, i);
-    let setting = byte(i);
+    let setting = narrow(i);
     let most = push(before, setting, 0, low[i]);
     let rule = push(most, setting, 1, high[i]);
     let ruled = apart(low[i], high[i]);

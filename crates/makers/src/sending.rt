@@ -1,10 +1,10 @@
 // Sending rules to a book: its length and number of rules so far, and the record of each, written where it fits.
 ghost use mathlib.Core.Path.{_≡_};
 ghost use Prim.Native.Nat.{_≤_};
-ghost use Rattle.hand.specs.Inner.{ruleIn, Sane};
+ghost use Rattle.reducing.specs.Inner.{ruleIn, Sane};
 ghost use Rattle.makers.specs.Inner.{State, send};
 use books::put_rule;
-use hand::Hand;
+use reducing::Hand;
 
 // How far a book has come.
 pub struct Tally {

@@ -4,16 +4,16 @@ ghost use Prim.Native.Nat.{_+_, _<_};
 ghost use lib.Dec.{ltb};
 ghost use Rattle.meaning.specs.Lists.{opt};
 ghost use Rattle.meaning.specs.Rows.{rowsOf};
-ghost use Rattle.hand.specs.Inner.{ruleIn, Ready};
+ghost use Rattle.reducing.specs.Inner.{ruleIn, Ready};
 ghost use Rattle.makers.specs.Inner.{Countable, Sent, ruledOf, Sides, SentEdges};
-use crate::earlier::byte;
 use crate::earlier::differ;
 use crate::earlier::differs_before;
 use crate::sending::Tally;
 use crate::sending::send;
-use hand::Hand;
-use hand::push;
-use hand::reduced;
+use literals::narrow;
+use reducing::Hand;
+use reducing::push;
+use reducing::reduced;
 
 // Sends the rule in hand, reduced for the family, if its slot has a rule.
 pub fn slot(
@@ -73,7 +73,7 @@ pub fn edges(
     let mut i = from;
     let mut sent = tally;
     while i < sizes.len() {
-        let setting = byte(i);
+        let setting = narrow(i);
         let rule = push(h, setting, side, row[i]);
         let open = ruled(side, sizes[i], row[i]);
         sent = slot(open, rule, family, table, sizes.len(), room, sent);

@@ -1,7 +1,7 @@
 -- Bounds: every made rule is one that a book may hold, and there are few enough of them; so the made book is well formed.
 use Prim.Native.Nat.{ℕ, zero, suc, _+_, _*_, _-_, _≤_}
 use native.Mathlib.Omega.{arith}
-use native.Mathlib.Nat.{mul-comm, mul-assoc, mul-le-mul-left, mul-le-mul}
+use native.Mathlib.Nat.{mul-le-mul}
 use mathlib.Core.Path.{_≡_}
 use mathlib.Core.List.{List, [], _∷_, map}
 use lib.Dec.{T, ltb}
@@ -97,7 +97,7 @@ row-few ns rows k = simp length-append (omega (
   middle-few ns rows k,
 ))
 
-rules-length : (family : ℕ) (ns : Sizes) (rows : List Row) → length (rulesFor family ns rows) ≡ length (general ns rows)
+pub rules-length : (family : ℕ) (ns : Sizes) (rows : List Row) → length (rulesFor family ns rows) ≡ length (general ns rows)
 unfolding rulesFor
 rules-length family ns rows = length-map (general ns rows) (reduceFor family rows)
 
@@ -105,11 +105,6 @@ general-few : (ns : Sizes) (rows : List Row) → 1 ≤ length rows → length (g
 unfolding general
 general-few ns [] h = absurd (omega arith)
 general-few ns (m ∷ rows) h = each-few (rowRules ns (m ∷ rows)) (2 * length ns + 1) (row-few ns (m ∷ rows)) 0 (length (m ∷ rows))
-
-pub rules-few : (family : ℕ) (ns : Sizes) (rows : List Row) → 1 ≤ length ns → 1 ≤ length rows → length (rulesFor family ns rows) ≤ 3 * length rows * length ns
-rules-few family ns rows h k =
-    let few : length rows * (2 * length ns + 1) ≤ length rows * (3 * length ns) = mul-le-mul-left (length rows) (omega arith) in
-    rw (mul-comm 3 (length rows), mul-assoc) (omega (arith, rules-length family ns rows, general-few ns rows k))
 
 -- no rows included
 pub rules-bounded : (family : ℕ) (ns : Sizes) (rows : List Row) → length ns ≤ 16 → length rows ≤ 512 → length (rulesFor family ns rows) ≤ 24576

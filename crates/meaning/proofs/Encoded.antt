@@ -1,7 +1,7 @@
--- Encoded: the bytes of a book read back as the same head and rules, so that no other head or rules have these bytes.
+-- Encoded: how long the bytes of a rule and of a book are, and that they read back as the same rules.
 use Prim.Native.Nat.{ℕ, zero, suc, _+_, _*_, _/_, _%_, _<_}
 use native.Mathlib.Omega.{arith}
-use mathlib.Core.Path.{_≡_, refl, sym, ap, _∙_}
+use mathlib.Core.Path.{_≡_, refl, sym, _∙_}
 use mathlib.Core.List.{List, [], _∷_, _++_, append-assoc}
 use lib.ListN.{length, getD, drop, length-append}
 use lib.Seq.{drop-nil}
@@ -18,11 +18,6 @@ encodeLiterals-length (c ∷ r) = omega (arith, encodeLiterals-length r)
 pub encodeRule-length : (r : Rule) → length (encodeRule r) ≡ 3 + 3 * length r
 unfolding encodeRule
 encodeRule-length r = omega (arith, encodeLiterals-length r)
-
-pub encodeRules-append : (rs ss : List Rule) → encodeRules (rs ++ ss) ≡ encodeRules rs ++ encodeRules ss
-unfolding encodeRules
-encodeRules-append [] ss = refl
-encodeRules-append (r ∷ rs) ss = rw (encodeRules-append rs ss) (sym (append-assoc (encodeRule r) (encodeRules rs) (encodeRules ss)))
 
 pub encode-length : (n l family : ℕ) (rs : List Rule) → length (encode n l family rs) ≡ 9 + length (encodeRules rs)
 unfolding encode
@@ -89,18 +84,6 @@ word : (k : ℕ) → 256 * (k / 256) + k % 256 ≡ k
 word k = omega arith
 
 module _ (n l family : ℕ) (rs : List Rule) where
-  pub encode-n : getD (encode n l family rs) 2 0 ≡ n
-  unfolding encode
-  encode-n = refl
-
-  pub encode-l : getD (encode n l family rs) 3 0 ≡ l
-  unfolding encode
-  encode-l = refl
-
-  pub encode-family : getD (encode n l family rs) 4 0 ≡ family
-  unfolding encode
-  encode-family = refl
-
   pub encode-count : wordAt (encode n l family rs) 5 ≡ length rs
   unfolding encode
   encode-count = word (length rs)
@@ -108,12 +91,3 @@ module _ (n l family : ℕ) (rs : List Rule) where
   pub encode-rules : rulesIn (encode n l family rs) ≡ rs
   unfolding encode
   encode-rules = rw (word (length rs)) (rules-stand (encode n l family rs) 7 rs encodeEnd refl)
-
-pub encode-unique : (n l family n′ l′ family′ : ℕ) (rs ss : List Rule) → encode n l family rs ≡ encode n′ l′ family′ ss
-    → (n ≡ n′) × (l ≡ l′) × (family ≡ family′) × (rs ≡ ss)
-encode-unique n l family n′ l′ family′ rs ss e = (
-  sym (encode-n n l family rs) ∙ ap (λ (b : List ℕ). getD b 2 0) e ∙ encode-n n′ l′ family′ ss,
-  sym (encode-l n l family rs) ∙ ap (λ (b : List ℕ). getD b 3 0) e ∙ encode-l n′ l′ family′ ss,
-  sym (encode-family n l family rs) ∙ ap (λ (b : List ℕ). getD b 4 0) e ∙ encode-family n′ l′ family′ ss,
-  sym (encode-rules n l family rs) ∙ ap rulesIn e ∙ encode-rules n′ l′ family′ ss,
-)

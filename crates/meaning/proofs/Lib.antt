@@ -38,3 +38,4 @@ pub mod Proper
 pub mod Bounds
 pub mod Passed
 pub mod Converse
+pub mod Limits

@@ -1,30 +1,13 @@
--- Literals in bytes: when one that stands there holds, how a rule that stands there depends on the bytes, and that a rule's bytes are those that the book has for it.
+-- Literals in bytes: their settings and bounds, how a rule that stands there depends on the bytes, and that a rule's bytes are those that the book has for it.
 use Prim.Native.Nat.{ℕ, zero, suc, _+_, _*_, _≤_, _<_}
 use native.Mathlib.Omega.{arith}
 use native.Mathlib.Numerals.{add-one, unary-clauses}
 use mathlib.Core.Path.{_≡_, refl, sym, ap, _∙_}
-use mathlib.Core.Logic.{_≢_}
 use mathlib.Core.List.{List, [], _∷_, _++_}
-use lib.Dec.{leb}
 use lib.ListN.{length, getD, take, drop}
 use lib.Seq.{drop-cons}
-use Rattle.meaning.specs.Rows.{Row}
-use Rattle.meaning.specs.Rules.{Rule, setting, sign, bound, holds}
+use Rattle.meaning.specs.Rules.{Rule, setting, sign, bound}
 use Rattle.meaning.specs.Bytes.{encodeLiterals, literal, literalAt, literalsAt}
-
--- the literal at p holds, by its sign; i is its setting
-module _ (b : List ℕ) (p i : ℕ) (x : Row) (e : i ≡ getD b p 0) where
-  pub holds-most : getD b (p + 1) 0 ≡ 0 → leb (getD x i 0) (getD b (p + 2) 0) ≡ holds (literalAt b p) x
-  unfolding holds
-  holds-most h = rw (h, e)
-
-  pub holds-least : getD b (p + 1) 0 ≢ 0 → leb (getD b (p + 2) 0) (getD x i 0) ≡ holds (literalAt b p) x
-  unfolding holds
-  holds-least h = rw e (go (getD b (p + 1) 0) h)
-    where
-      go : (g : ℕ) → g ≢ 0 → leb (getD b (p + 2) 0) (getD x (getD b p 0) 0) ≡ holds (literal g (getD b p 0) (getD b (p + 2) 0)) x
-      go zero h = absurd (h refl)
-      go (suc g) h = refl
 
 pub literals-length : (b : List ℕ) (p k : ℕ) → length (literalsAt b p k) ≡ k
 unfolding literalsAt
@@ -46,6 +29,14 @@ literals-more b p (suc k) =
     let e : suc k + 1 ≡ suc (k + 1) = omega arith in
     let z : p + 3 * suc k ≡ p + 3 + 3 * k = omega arith in
     rw (e, z) (ap (λ (l : Rule). literalAt b p ∷ l) (literals-more b (p + 3) k))
+
+pub literal-setting-is : (g i d : ℕ) → setting (literal g i d) ≡ i
+literal-setting-is zero i d = refl
+literal-setting-is (suc g) i d = refl
+
+pub literal-bound-is : (g i d : ℕ) → bound (literal g i d) ≡ d
+literal-bound-is zero i d = refl
+literal-bound-is (suc g) i d = refl
 
 -- a literal's parts are its three bytes
 pub literal-parts : (g i d : ℕ) (t : List ℕ) → g < 2 → setting (literal g i d) ∷ sign (literal g i d) ∷ bound (literal g i d) ∷ t ≡ i ∷ g ∷ d ∷ t

@@ -1,14 +1,17 @@
 -- Met: what it says of a combination that a rule, or all rules of a list, are met.
 use Prim.Native.Nat.{ℕ, zero, suc, _+_, _≤_, _<_}
 use native.Mathlib.Omega.{arith}
-use mathlib.Core.Path.{_≡_, refl}
+use mathlib.Core.Path.{_≡_, refl, sym, _∙_}
 use mathlib.Core.Logic.{_↔_, _⊎_, inl, inr, Iff·rfl}
-use mathlib.Core.Bool.{Bool, true, false, _&&_, _||_, or-assoc, and-assoc, or-false}
+use mathlib.Core.Bool.{Bool, true, false, cond, _&&_, _||_, or-assoc, and-assoc, or-false}
 use mathlib.Core.List.{List, [], _∷_, _++_}
-use lib.Dec.{T}
+use lib.Dec.{T, ltb, leb·suc-suc}
+use lib.ListN.{length}
+use borrow.Author.Tests.{lt-ltb}
 use Rattle.meaning.specs.Lists.{opt, each}
 use Rattle.meaning.specs.Rows.{Row}
 use Rattle.meaning.specs.Rules.{Literal, Rule, holds, met, allMet}
+use Rattle.meaning.specs.Inner.{firstHeld}
 use Rattle.meaning.proofs.Tests.{lt-or-le, and-l, and-i, or-l, or-r, or-e, T-and, T-or}
 
 -- ---- one rule
@@ -33,6 +36,16 @@ pub met-append : (r s : Rule) (x : Row) → met (r ++ s) x ≡ met r x || met s 
 unfolding met
 met-append [] s x = refl
 met-append (c ∷ r) s x = rw (met-append r s x, or-assoc)
+
+-- a rule is met where one of its literals is the first that holds
+pub met-held : (r : Rule) (x : Row) → met r x ≡ ltb (firstHeld r x) (length r)
+unfolding met firstHeld
+met-held [] x = refl
+met-held (c ∷ r) x = go (holds c x) (met-held r x)
+  where
+    go : (t : Bool) → met r x ≡ ltb (firstHeld r x) (length r) → t || met r x ≡ ltb (cond t 0 (suc (firstHeld r x))) (suc (length r))
+    go true e = sym (lt-ltb 0 (suc (length r)) (omega arith))
+    go false e = e ∙ sym (leb·suc-suc (suc (firstHeld r x)) (length r))
 
 pub met-opt : (b : Bool) (c : Literal) (x : Row) → met (opt b c) x ≡ b && holds c x
 unfolding met

@@ -5,20 +5,12 @@ use mathlib.Core.Path.{_≡_}
 use mathlib.Core.Logic.{inl, inr}
 use mathlib.Core.Bool.{true}
 use mathlib.Core.List.{List, [], _∷_}
-use lib.Dec.{T, ltb, lt→ltb}
+use lib.Dec.{T}
 use lib.ListN.{length}
-use Rattle.meaning.specs.Rows.{Row, Sizes, at, row, within, before, ascending, allWithin}
+use Rattle.meaning.specs.Rows.{Row, Sizes, row, within, before, ascending, allWithin}
 use Rattle.meaning.proofs.Tests.{lt-or-le, and-i, is-yes}
 use Rattle.meaning.proofs.Order.{before-transitive}
 use Rattle.meaning.proofs.Members.{ascending-next}
-
-pub within-of : (ns : Sizes) (x : Row) → length x ≡ length ns → ((i : ℕ) → i < length ns → at x i < at ns i) → T (within ns x)
-unfolding within
-within-of [] [] e f = tt
-within-of [] (v ∷ x) e f = absurd (omega arith)
-within-of (n ∷ ns) [] e f = absurd (omega arith)
-within-of (n ∷ ns) (v ∷ x) e f =
-    and-i (ltb v n) (within ns x) (lt→ltb v n (f 0 (omega arith))) (within-of ns x (omega arith) (λ i h. f (suc i) (omega arith)))
 
 pub allWithin-of : (ns : Sizes) (rows : List Row) → ((k : ℕ) → k < length rows → T (within ns (row rows k))) → T (allWithin ns rows)
 unfolding allWithin

@@ -1,8 +1,8 @@
--- Rows: the values of the settings, their sizes, their order, and what makes a table sound.
-use Prim.Native.Nat.{ℕ, zero, suc, _/_}
-use mathlib.Core.Bool.{Bool, true, false, cond, _&&_, _||_}
+-- Rows: the values of the settings, their sizes and limits, their order, and what makes a table sound.
+use Prim.Native.Nat.{ℕ, zero, suc, _/_, _≤_}
+use mathlib.Core.Bool.{Bool, true, false, _&&_, _||_}
 use mathlib.Core.List.{List, [], _∷_}
-use lib.Dec.{ltb, eqb}
+use lib.Dec.{ltb, eqb, leb}
 use lib.ListN.{length, getD, take, drop, replicate}
 
 -- values, setting by setting: a row, a combination, or a prefix, which is the first few values of one
@@ -16,6 +16,17 @@ Sizes = List ℕ
 -- edition 1: one n serves all l settings
 abbrev pub alike : ℕ → ℕ → Sizes
 alike n l = replicate l n
+
+-- the limits: n from 1 to 64, and l from 1 to 16
+unfoldable pub limits : ℕ → ℕ → Bool
+limits n l = (leb 1 n && leb n 64) && (leb 1 l && leb l 16)
+
+-- the same as a fact
+pub record Limited (n l : ℕ) : Type 0 where
+  pub some : 1 ≤ n
+  pub few : n ≤ 64
+  pub wide : 1 ≤ l
+  pub narrow : l ≤ 16
 
 -- the value of a setting, counted from 0
 abbrev pub at : Row → ℕ → ℕ

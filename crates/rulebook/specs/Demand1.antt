@@ -8,14 +8,14 @@ use mathlib.Core.Option.{Option, none, some}
 use lib.Dec.{leb, ltb, eqb}
 use lib.ListN.{length}
 use Rattle.meaning.proofs.Tests.{Case, case, is, isnt}
-use Rattle.meaning.specs.Rows.{Row, alike, rowsOf}
+use Rattle.meaning.specs.Rows.{Row, alike, rowsOf, limits}
 use Rattle.meaning.proofs.Alike.{alike-length}
 use Rattle.meaning.specs.Closed.{orElse, unless, openRows, FirstOpenFor}
 use Rattle.tables.specs.declared.Flaw.{Flaw}
 use Rattle.tables.specs.declared.Flaw.the-variants.{Limits, Length, Rows, Value, Order}
 use Rattle.tables.specs.declared.Checked.{Checked}
 use Rattle.tables.specs.declared.Checked.the-variants.{Sound, Flawed}
-use Rattle.tables.specs.Check.{limits, firstHigh, firstLow, rowFlawOf, flawOf, answer, checkedOf, valuesOf}
+use Rattle.tables.specs.Check.{firstHigh, firstLow, rowFlawOf, flawOf, answer, checkedOf, valuesOf}
 use Rattle.tables.proofs.laws.Firsts.{high-some, low-some}
 use Rattle.meaning.specs.Rules.{Rule}
 use Rattle.meaning.proofs.Given.{open-first}

@@ -1,12 +1,11 @@
 -- Check: what is wrong with a table. Refusals 1 to 5 of document 01, in their order, with their numbers and values.
 use Prim.Native.Nat.{ℕ, suc, _/_, _%_, _-_, _≤_, _*_}
-use mathlib.Core.Bool.{Bool, _&&_}
 use mathlib.Core.List.{List, [], _∷_}
 use mathlib.Core.Option.{Option, none, some}
 use mathlib.Core.Path.{_≡_}
 use lib.Dec.{leb, ltb, eqb, T}
 use lib.ListN.{length}
-use Rattle.meaning.specs.Rows.{Row, Sizes, alike, at, row, before, rowsOf, sound}
+use Rattle.meaning.specs.Rows.{Row, Sizes, alike, at, row, before, rowsOf, sound, limits, Limited}
 use Rattle.meaning.specs.Closed.{orElse, first, unless}
 use Rattle.tables.specs.declared.Flaw.{Flaw}
 use Rattle.tables.specs.declared.Flaw.the-variants.{Limits, Length, Rows, Value, Order}
@@ -27,17 +26,6 @@ valuesOf Length = []
 valuesOf (Rows k) = k ∷ []
 valuesOf (Value p) = p ∷ []
 valuesOf (Order k) = k ∷ []
-
--- 1: n and l within their limits
-unfoldable pub limits : ℕ → ℕ → Bool
-limits n l = (leb 1 n && leb n 64) && (leb 1 l && leb l 16)
-
--- the same as a fact
-pub record Limited (n l : ℕ) : Type 0 where
-  pub some : 1 ≤ n
-  pub few : n ≤ 64
-  pub wide : 1 ≤ l
-  pub narrow : l ≤ 16
 
 -- 4: the value at place p is not below its setting's size
 unfoldable pub tryHigh : Sizes → List ℕ → ℕ → Option Flaw

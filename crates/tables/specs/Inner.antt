@@ -1,13 +1,13 @@
 -- Inner: the words that only inner contracts cite.
 use Prim.Native.Nat.{ℕ, _<_, _+_, _*_, _/_, _≤_, suc, _-_, zero}
-use mathlib.Core.Bool.{cond, Bool, true, false}
+use mathlib.Core.Bool.{cond}
 use mathlib.Core.List.{List, [], _∷_}
 use mathlib.Core.Option.{Option, none, some}
 use mathlib.Core.Path.{_≡_}
 use lib.Dec.{T}
 use lib.ListN.{length}
 use Rattle.meaning.specs.Rows.{Row, before, same, ascending, rowsOf, row, Sizes}
-use Rattle.meaning.specs.Rules.{Side, low, high}
+use Rattle.meaning.specs.Rules.{Side}
 use Rattle.meaning.specs.Families.{both, median}
 use Rattle.meaning.specs.Closed.{first, tryPair, tryTriple, orElse}
 use Rattle.tables.specs.declared.order.Compared.{Compared}
@@ -25,11 +25,6 @@ comparedOf a b = cond (before a b) Below (cond (same a b) Same Above)
 pub record Rising (l : ℕ) (table : List ℕ) : Type 0 where
   pub wide : 0 < l
   pub rising : T (ascending (rowsOf l table))
-
--- by the flag of the code
-abbrev pub sideOf : Bool → Side
-sideOf false = low
-sideOf true = high
 
 -- the rows ascend, and are no wider than the array
 pub record Ready (l : ℕ) (table : List ℕ) : Type 0 where

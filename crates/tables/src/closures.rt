@@ -5,7 +5,8 @@ use crate::combine::pair_is_row;
 ghost use mathlib.Core.Path.{_≡_};
 ghost use Rattle.meaning.specs.Rows.{rowsOf};
 ghost use Rattle.meaning.specs.Closed.{openPair, openTriple, openRows};
-ghost use Rattle.tables.specs.Inner.{sideOf, Ready, Known, shown, pairAfter, tripleAfter, triplesAfter};
+ghost use Rattle.tables.specs.Inner.{Ready, Known, shown, pairAfter, tripleAfter, triplesAfter};
+ghost use Rattle.meaning.specs.Inner.{sideOf};
 
 // Rows i and j with the first j after i for which the minimum, or where `high` the maximum, is no row.
 fn pair_after(table: &[u8], l: usize, high: bool, i: usize) -> Closure

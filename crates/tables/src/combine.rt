@@ -5,7 +5,8 @@ ghost use Prim.Native.Nat.{_≤_};
 ghost use lib.ListN.{take};
 ghost use Rattle.meaning.specs.Rows.{rowsOf, isRow};
 ghost use Rattle.meaning.specs.Families.{pick, mid};
-ghost use Rattle.tables.specs.Inner.{sideOf, pairOf, medianOf, Known, Ready};
+ghost use Rattle.tables.specs.Inner.{pairOf, medianOf, Known, Ready};
+ghost use Rattle.meaning.specs.Inner.{sideOf};
 
 // The smaller of two values, or where `high` the greater.
 fn picked(high: bool, u: u8, v: u8) -> u8

@@ -3,27 +3,14 @@ use crate::Checked;
 use crate::Flaw;
 use crate::order::Compared;
 use crate::order::compare;
+use literals::limits;
+use literals::narrow;
 ghost use mathlib.Core.Path.{_≡_};
 ghost use Prim.Native.Nat.{_+_, _/_, _%_, _≤_, _<_};
 ghost use lib.ListN.{length};
-ghost use Rattle.tables.specs.Check.{limits, Limited, rowFlawOf, flawOf, answer, checkedOf};
+ghost use Rattle.meaning.specs.Rows.{Limited};
+ghost use Rattle.tables.specs.Check.{rowFlawOf, flawOf, answer, checkedOf};
 ghost use Rattle.tables.specs.Inner.{Passed, Stands, lowFrom};
-
-// Is n from 1 to 64, and l from 1 to 16?
-fn in_limits(n: usize, l: usize) -> bool
-    ensures { λ r. ⌜ r ≡ limits n l ⌝ }
-{
-    if n < 1 {
-        return false;
-    }
-    if 64 < n {
-        return false;
-    }
-    if l < 1 {
-        return false;
-    }
-    l <= 16
-}
 
 // The place of the first value of the row at `at` that is not below its setting's size, or the row's end.
 fn passed(sizes: &[u8], table: &[u8], at: usize) -> usize
@@ -103,14 +90,6 @@ pub fn check_sizes(sizes: &[u8], table: &[u8]) -> Checked
     check_rows(sizes, table)
 }
 
-// A size as a byte.
-fn narrow(n: usize) -> u8
-    requires { ⌜ n ≤ 64 ⌝ }
-    ensures { λ r. ⌜ r ≡ n ⌝ }
-{
-    n as u8
-}
-
 // The check over l settings of n values each.
 fn check_alike(n: usize, l: usize, table: &[u8]) -> Checked
     requires { ⌜ Limited n l ⌝ }
@@ -126,7 +105,7 @@ fn check_alike(n: usize, l: usize, table: &[u8]) -> Checked
 pub fn check(n: usize, l: usize, table: &[u8]) -> Checked
     ensures { λ r. ⌜ r ≡ checkedOf n l (now (table .entry)) ⌝ }
 {
-    let known = in_limits(n, l);
+    let known = limits(n, l);
     if known {
         return check_alike(n, l, table);
     }

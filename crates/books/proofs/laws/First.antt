@@ -7,8 +7,8 @@ use mathlib.Core.Bool.{true, false}
 use mathlib.Core.List.{List, [], _∷_}
 use lib.Dec.{T, ltb}
 use lib.ListN.{length, getD}
-use borrow.Author.Tests.{ltb-true, ltb-false, lt-ltb, le-ltb}
-use Rattle.meaning.specs.Rows.{Row, Sizes, at, within}
+use borrow.Author.Tests.{lt-ltb, le-ltb}
+use Rattle.meaning.specs.Rows.{Row, Sizes, within}
 use Rattle.meaning.specs.Rules.{Rule, met, allMet}
 use Rattle.meaning.proofs.Tests.{case, is, isnt, yes-of}
 use Rattle.books.specs.Tested.{firstUnmet, firstOver}
@@ -86,24 +86,4 @@ firstOver-all (n ∷ ns) [] h = absurd (omega arith)
 firstOver-all (n ∷ ns) (v ∷ x) h = elim (case (ltb v n)) [
   | is e ↦ rw e (λ g. firstOver-all ns x (omega arith) .0 (omega arith), λ t. ap suc (firstOver-all ns x (omega arith) .1 t))
   | isnt e ↦ rw e (λ g. absurd (omega arith), λ t. absurd t)
-]
-
--- the values before it are below their sizes, and it is not
-pub firstOver-before : (ns : Sizes) (x : Row) (j : ℕ) → j < firstOver ns x → at x j < at ns j
-unfolding firstOver
-firstOver-before ns [] j h = absurd (omega arith)
-firstOver-before [] (v ∷ x) j h = absurd (omega arith)
-firstOver-before (n ∷ ns) (v ∷ x) zero h = elim (case (ltb v n)) [ is e ↦ ltb-true v n e | isnt e ↦ absurd (omega (arith, firstOver-not n ns v x (ltb-false v n e))) ]
-firstOver-before (n ∷ ns) (v ∷ x) (suc j) h = elim (case (ltb v n)) [
-  | is e ↦ firstOver-before ns x j (omega (arith, firstOver-below n ns v x (ltb-true v n e)))
-  | isnt e ↦ absurd (omega (arith, firstOver-not n ns v x (ltb-false v n e)))
-]
-
-pub firstOver-at : (ns : Sizes) (x : Row) → length x ≡ length ns → firstOver ns x < length x → at ns (firstOver ns x) ≤ at x (firstOver ns x)
-unfolding firstOver
-firstOver-at ns [] e h = absurd (omega arith)
-firstOver-at [] (v ∷ x) e h = absurd (omega arith)
-firstOver-at (n ∷ ns) (v ∷ x) q h = elim (case (ltb v n)) [
-  | is e ↦ let b = firstOver-below n ns v x (ltb-true v n e) in rw b (firstOver-at ns x (omega arith) (omega (arith, b)))
-  | isnt e ↦ rw (firstOver-not n ns v x (ltb-false v n e)) (ltb-false v n e)
 ]

@@ -5,8 +5,8 @@ use mathlib.Core.Path.{_≡_, sym, _∙_}
 use mathlib.Core.List.{List}
 use lib.ListN.{length, take, replicate}
 use borrow.Author.Tests.{lt-ltb, le-ltb}
-use Rattle.meaning.specs.Rows.{alike}
-use Rattle.meaning.proofs.Alike.{alike-length, alike-at, alike-lent, alike-cut}
+use Rattle.meaning.specs.Rows.{alike, Limited}
+use Rattle.meaning.proofs.Limits.{lent}
 use Rattle.books.specs.declared.Fault.{Fault}
 use Rattle.books.specs.declared.Fault.the-variants.{Trailing}
 use Rattle.books.specs.declared.Got.{Got}
@@ -15,21 +15,11 @@ use Rattle.books.specs.declared.Reading.{Reading}
 use Rattle.books.specs.declared.Reading.the-variants.{Book, Faulty}
 use Rattle.books.specs.Format.{markOf, fieldOf, wordOf, rulesOf, tailOf, restOf, readOf}
 use Rattle.books.proofs.laws.Fields.{field-tells, word-tells}
-use Rattle.books.specs.Inner.{Sized, Limits}
 use Rattle.books.proofs.laws.Rules.{rules-inside}
 
--- ---- the sizes of this edition, lent
-pub sizes-good : (n l m : ℕ) → Sized n l → m ≡ n → Limits (take l (replicate 16 m))
-sizes-good n l m s e = rw (e, alike-lent n l (s .few)) (record {
-  some = λ i h. rw (alike-at n l i (omega (arith, alike-length n l))) (s .some);
-  few = omega (arith, alike-length n l, s .few);
-})
-
-pub sizes-length : (n l m : ℕ) → Sized n l → l ≡ length (take l (replicate 16 m))
-sizes-length n l m s = alike-cut m l (s .few)
-
-pub rules-alike : (b : List ℕ) (n l family k m : ℕ) (r : Got) → Sized n l → m ≡ n → r ≡ rulesOf b (take l (replicate 16 m)) family 7 k → r ≡ rulesOf b (alike n l) family 7 k
-rules-alike b n l family k m r s e a = a ∙ rw (e, alike-lent n l (s .few))
+-- the sizes of this edition, lent
+pub rules-alike : (b : List ℕ) (n l family k m : ℕ) (r : Got) → Limited n l → m ≡ n → r ≡ rulesOf b (take l (replicate 16 m)) family 7 k → r ≡ rulesOf b (alike n l) family 7 k
+rules-alike b n l family k m r s e a = a ∙ rw (lent n l s m e)
 
 -- ---- after the head
 module _ (b : List ℕ) (n l family rules : ℕ) where
@@ -95,9 +85,10 @@ module _ (b : List ℕ) where
       unfolding readOf
       read-rest r₃ l a₃ q₃ r a = a ∙ sym (rw (sym a₁ ∙ q₁, sym a₂ ∙ q₂, sym a₃ ∙ q₃))
 
-pub read-sized : (b : List ℕ) (n l : ℕ) (r₂ r₃ : Got) → r₂ ≡ fieldOf b 0 2 1 65 → r₂ ≡ At n → r₃ ≡ fieldOf b 0 3 1 17 → r₃ ≡ At l → Sized n l
-read-sized b n l r₂ r₃ a₂ q₂ a₃ q₃ = record {
+pub read-limited : (b : List ℕ) (n l : ℕ) (r₂ r₃ : Got) → r₂ ≡ fieldOf b 0 2 1 65 → r₂ ≡ At n → r₃ ≡ fieldOf b 0 3 1 17 → r₃ ≡ At l → Limited n l
+read-limited b n l r₂ r₃ a₂ q₂ a₃ q₃ = record {
   some = field-tells b 0 2 1 65 n (sym a₂ ∙ q₂) .low;
-  few = omega (arith, field-tells b 0 3 1 17 l (sym a₃ ∙ q₃) .high);
-  small = omega (arith, field-tells b 0 2 1 65 n (sym a₂ ∙ q₂) .high);
+  few = omega (arith, field-tells b 0 2 1 65 n (sym a₂ ∙ q₂) .high);
+  wide = field-tells b 0 3 1 17 l (sym a₃ ∙ q₃) .low;
+  narrow = omega (arith, field-tells b 0 3 1 17 l (sym a₃ ∙ q₃) .high);
 }

@@ -1,15 +1,15 @@
 -- Holds: what stands in an accepted book from a place on, for those who walk it by places and do not open the reader.
 -- holds-start gives it for all rules, at place 7. While there is a rule, holds-good, holds-inside and holds-record tell of the one at
--- the place, and holds-next goes on at its end; holds-on is that step as a loop over i makes it. setting-at tells of one literal.
-use Prim.Native.Nat.{ℕ, zero, suc, _+_, _*_, _-_, _≤_, _<_}
+-- the place, and holds-next goes on at its end; holds-on is that step as a loop over i makes it.
+use Prim.Native.Nat.{ℕ, zero, suc, _+_, _-_, _≤_, _<_}
 use native.Mathlib.Omega.{arith}
-use mathlib.Core.Path.{_≡_, refl, ap, _∙_}
+use mathlib.Core.Path.{_≡_, ap, _∙_}
 use mathlib.Core.List.{List, [], _++_, append-assoc}
-use lib.ListN.{length, getD, take, drop, drop-of-length-le}
+use lib.ListN.{length, take, drop, drop-of-length-le}
 use lib.Seq.{take-at}
 use Rattle.meaning.specs.Rows.{Sizes, alike}
-use Rattle.meaning.specs.Rules.{setting, bound, Fits, AllFit, Good}
-use Rattle.meaning.specs.Bytes.{literal, literalAt, literalsAt, ruleAt, endAt, rulesAt, placeAt, encodeRule, encodeRules, encodeEnd}
+use Rattle.meaning.specs.Rules.{Good}
+use Rattle.meaning.specs.Bytes.{ruleAt, endAt, rulesAt, placeAt, encodeRule, encodeRules, encodeEnd}
 use Rattle.meaning.proofs.Literals.{two-bytes}
 use Rattle.meaning.proofs.Encoded.{rule-stands}
 use Rattle.books.specs.declared.Reading.the-variants.{Book}
@@ -73,28 +73,3 @@ module _ (b : List ℕ) (ns : Sizes) (family p k i : ℕ) (a : Holds b ns family
   holds-on h =
       let e : k - (i + 1) ≡ k - i - 1 = omega arith in
       rw e (holds-next b ns family p (k - i) a (omega arith))
-
--- ---- a literal of the rule
-
-pub literal-setting-is : (g i d : ℕ) → setting (literal g i d) ≡ i
-literal-setting-is zero i d = refl
-literal-setting-is (suc g) i d = refl
-
-pub literal-bound-is : (g i d : ℕ) → bound (literal g i d) ≡ d
-literal-bound-is zero i d = refl
-literal-bound-is (suc g) i d = refl
-
--- of k literals from p on, the one after i of them
-pub fits-at : (b : List ℕ) (ns : Sizes) (p k i : ℕ) → AllFit ns (literalsAt b p k) → i < k → Fits ns (literalAt b (p + 3 * i))
-unfolding literalsAt
-fits-at b ns p zero i f h = absurd (omega arith)
-fits-at b ns p (suc k) zero f h = let e : p + 3 * 0 ≡ p = omega arith in rw e (f .0)
-fits-at b ns p (suc k) (suc i) f h =
-    let e : p + 3 * suc i ≡ p + 3 + 3 * i = omega arith in
-    rw e (fits-at b ns (p + 3) k i (f .1) (omega arith))
-
--- its setting is a setting
-pub setting-at : (b : List ℕ) (ns : Sizes) (p k i : ℕ) → AllFit ns (literalsAt b p k) → i < k → getD b (p + 3 * i) 0 < length ns
-setting-at b ns p k i f h =
-    let q = p + 3 * i in
-    omega (arith, fits-at b ns p k i f h .known, literal-setting-is (getD b (q + 1) 0) (getD b q 0) (getD b (q + 2) 0))

@@ -8,16 +8,16 @@ use mathlib.Core.List.{List, _∷_}
 use lib.ListN.{length, getD, take, drop, replicate}
 use lib.Seq.{drop-cons}
 use borrow.Author.Tests.{lt-ltb, le-ltb, eq-eqb, ne-eqb}
-use Rattle.meaning.specs.Rows.{Row, Sizes, alike, at}
+use Rattle.meaning.specs.Rows.{Row, Sizes, alike, at, Limited}
 use Rattle.meaning.specs.Bytes.{rulesAt}
-use Rattle.meaning.proofs.Alike.{alike-lent}
+use Rattle.meaning.proofs.Limits.{lent}
 use Rattle.books.specs.declared.Fault.{Fault}
 use Rattle.books.specs.declared.Reading.{Reading}
 use Rattle.books.specs.declared.Reading.the-variants.{Book, Faulty}
 use Rattle.books.specs.declared.Tested.{Tested}
 use Rattle.books.specs.declared.Tested.the-variants.{Permitted, NotMet, Length, Value, Faulty as Refused}
 use Rattle.books.specs.Format.{readOf}
-use Rattle.books.specs.Inner.{Sized, Testable, Walkable}
+use Rattle.books.specs.Inner.{Testable, Walkable}
 use Rattle.books.specs.Tested.{judgeOf, testedOf, firstUnmet, firstOver}
 use Rattle.books.proofs.laws.Accepted.{headed, rulesAt-length}
 use Rattle.books.proofs.laws.Holds.{holds-start}
@@ -76,12 +76,12 @@ module _ (b : List ℕ) (ns : Sizes) (k : ℕ) (x : Row) where
       judge-met m = rw (eq-eqb (length x) (length ns) h, ← o, le-ltb p (length x) l, ← e, rulesAt-length b 7 k, le-ltb u k m)
 
 -- the sizes of this edition
-pub judge-alike : (b : List ℕ) (n l k m : ℕ) (x : Row) (r : Tested) → Sized n l → m ≡ n
+pub judge-alike : (b : List ℕ) (n l k m : ℕ) (x : Row) (r : Tested) → Limited n l → m ≡ n
     → r ≡ judgeOf (take l (replicate 16 m)) (rulesAt b 7 k) x → r ≡ judgeOf (alike n l) (rulesAt b 7 k) x
-judge-alike b n l k m x r s e a = a ∙ rw (e, alike-lent n l (s .few))
+judge-alike b n l k m x r s e a = a ∙ rw (lent n l s m e)
 
-pub walkable-alike : (b : List ℕ) (n l k m : ℕ) → Sized n l → m ≡ n → Walkable b (alike n l) k → Walkable b (take l (replicate 16 m)) k
-walkable-alike b n l k m s e w = rw (e, alike-lent n l (s .few)) w
+pub walkable-alike : (b : List ℕ) (n l k m : ℕ) → Limited n l → m ≡ n → Walkable b (alike n l) k → Walkable b (take l (replicate 16 m)) k
+walkable-alike b n l k m s e w = rw (lent n l s m e) w
 
 module _ (b : List ℕ) (x : Row) (r : Reading) (a : r ≡ readOf b) where
   pub test-faulty : (f : Fault) → r ≡ Faulty f → Refused f ≡ testedOf b x
@@ -89,8 +89,8 @@ module _ (b : List ℕ) (x : Row) (r : Reading) (a : r ≡ readOf b) where
   test-faulty f q = rw (sym a ∙ q)
 
   module _ (n l family k : ℕ) (q : r ≡ Book n l family k) where
-    pub test-sized : Sized n l
-    test-sized = let w = headed b n l family k (sym a ∙ q) .well-formed in record { some = w .n-low; few = w .l-high; small = w .n-high }
+    pub test-limited : Limited n l
+    test-limited = let w = headed b n l family k (sym a ∙ q) .well-formed in record { some = w .n-low; few = w .n-high; wide = w .l-low; narrow = w .l-high }
 
     pub test-walkable : Walkable b (alike n l) k
     test-walkable = record { family = family; holds = holds-start b n l family k (sym a ∙ q) }

@@ -1,6 +1,6 @@
 -- Put: bytes written over others from a place on, and the loop that does it.
 use Prim.Native.Nat.{ℕ, _+_, _≤_, _<_}
-use native.Mathlib.Nat.{add-zero}
+use native.Mathlib.Nat.{add-zero, zero-add}
 use native.Mathlib.Numerals.{add-one}
 use native.Mathlib.Omega.{arith}
 use mathlib.Core.Path.{_≡_, refl, sym, ap, _∙_}
@@ -19,6 +19,11 @@ putAt-length old at bytes h = simp (length-append, length-take, length-drop) (om
 pub putAt-nothing : (old : List ℕ) (at : ℕ) → putAt old at [] ≡ old
 unfolding putAt
 putAt-nothing old at = rw add-zero (take-append-drop at old)
+
+-- over the start
+pub putAt-start : (old bytes : List ℕ) → putAt old 0 bytes ≡ bytes ++ drop (length bytes) old
+unfolding putAt
+putAt-start old bytes = rw zero-add
 
 -- one write after another is one write
 pub putAt-putAt : (old : List ℕ) (at : ℕ) (xs ys : List ℕ) → at + length xs + length ys ≤ length old

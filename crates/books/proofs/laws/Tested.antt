@@ -2,20 +2,19 @@
 use Prim.Native.Nat.{ℕ, _≤_, _<_}
 use native.Mathlib.Omega.{arith}
 use mathlib.Core.Path.{_≡_, _∙_}
-use mathlib.Core.Logic.{_↔_, _≢_, inl, inr}
+use mathlib.Core.Logic.{_↔_, inl, inr}
 use mathlib.Core.Bool.{false, cond}
 use mathlib.Core.List.{List, []}
 use lib.Dec.{T, ltb}
 use lib.ListN.{length, getD}
-use borrow.Author.Tests.{lt-ltb, le-ltb, eq-eqb, ne-eqb}
+use borrow.Author.Tests.{lt-ltb, le-ltb, eq-eqb}
 use Rattle.meaning.specs.Rows.{Row, alike, within}
 use Rattle.meaning.specs.Rules.{met, allMet}
 use Rattle.meaning.specs.Bytes.{rulesIn}
 use Rattle.meaning.proofs.Tests.{lt-or-le}
-use Rattle.meaning.proofs.Alike.{alike-length}
 use Rattle.meaning.proofs.Members.{within-length}
 use Rattle.books.specs.declared.Reading.the-variants.{Book}
-use Rattle.books.specs.declared.Tested.the-variants.{Permitted, NotMet, Length, Value}
+use Rattle.books.specs.declared.Tested.the-variants.{Permitted, NotMet}
 use Rattle.books.specs.Format.{readOf}
 use Rattle.books.specs.Tested.{judgeOf, testedOf, firstUnmet, firstOver}
 use Rattle.books.proofs.laws.First.{firstUnmet-most, firstUnmet-all, firstUnmet-before, firstUnmet-at, firstOver-all}
@@ -26,15 +25,6 @@ module _ (b : List ℕ) (x : Row) (n l family k : ℕ) (h : readOf b ≡ Book n 
   tested-is : testedOf b x ≡ judgeOf (alike n l) (rulesIn b) x
   unfolding testedOf
   tested-is = rw h
-
-  pub tested-length : length x ≢ l → testedOf b x ≡ Length
-  unfolding judgeOf
-  tested-length d = tested-is ∙ rw (alike-length n l, ne-eqb (length x) l d)
-
-  -- a value outside its size: the first such
-  pub tested-value : length x ≡ l → firstOver (alike n l) x < length x → testedOf b x ≡ Value (firstOver (alike n l) x)
-  unfolding judgeOf
-  tested-value e o = tested-is ∙ rw (alike-length n l, eq-eqb (length x) l e, lt-ltb (firstOver (alike n l) x) (length x) o)
 
   module _ (w : T (within (alike n l) x)) where
     abbrev u : ℕ

@@ -15,7 +15,7 @@ use Rattle.meaning.specs.Rules.{bound, holds, met, key, Ordered}
 use Rattle.meaning.specs.Bytes.{literal, literalAt, literalsAt}
 use Rattle.meaning.specs.Listing.{decided}
 use Rattle.meaning.proofs.Tests.{case, is, isnt, lt-or-le}
-use Rattle.books.proofs.laws.Holds.{literal-setting-is, literal-bound-is}
+use Rattle.meaning.proofs.Literals.{literal-setting-is, literal-bound-is}
 use Rattle.listing.specs.Inner.{forbids, between, intervalOf}
 use Rattle.listing.proofs.laws.Literals.{key-low, key-high, decided-here}
 

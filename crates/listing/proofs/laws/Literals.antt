@@ -14,7 +14,7 @@ use Rattle.meaning.specs.Rules.{Literal, atMost, atLeast, Rule, setting, bound,
 use Rattle.meaning.specs.Bytes.{literalAt, literalsAt}
 use Rattle.meaning.specs.Listing.{decided}
 use Rattle.meaning.proofs.Dead.{holds-prefix}
-use Rattle.books.proofs.laws.Holds.{literal-setting-is}
+use Rattle.meaning.proofs.Literals.{literal-setting-is}
 use Rattle.listing.specs.declared.scan.Passed.the-variants.{Holds, Left}
 use Rattle.listing.specs.Inner.{earlyOf}
 

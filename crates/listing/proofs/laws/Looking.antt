@@ -13,7 +13,7 @@ use Rattle.meaning.specs.Bytes.{literalAt, literalsAt, ruleAt, rulesAt}
 use Rattle.meaning.specs.Listing.{dead, decided}
 use Rattle.meaning.proofs.Tests.{case, is, isnt, lt-or-le}
 use Rattle.meaning.proofs.Dead.{holds-prefix}
-use Rattle.books.proofs.laws.Holds.{literal-setting-is}
+use Rattle.meaning.proofs.Literals.{literal-setting-is}
 use Rattle.listing.specs.declared.cursor.Cursor.{Cursor}
 use Rattle.listing.specs.declared.scan.Judged.{Judged}
 use Rattle.listing.specs.declared.scan.Scanned.{Scanned}

@@ -9,8 +9,8 @@ use Rattle.meaning.specs.Lists.{each}
 use Rattle.meaning.specs.Rows.{Row, Sizes, rowsOf}
 use Rattle.meaning.specs.Rules.{Rule, Part, done, skip, hold}
 use Rattle.meaning.specs.General.{rowRules, general}
-use Rattle.hand.specs.declared.Hand.{Hand}
-use Rattle.hand.specs.Inner.{ruleIn, Holding}
+use Rattle.reducing.specs.declared.Hand.{Hand}
+use Rattle.reducing.specs.Inner.{ruleIn, Holding}
 use Rattle.meaning.proofs.Flat.{rows-count}
 use Rattle.meaning.proofs.Made.{reduceFor-part}
 use Rattle.makers.specs.declared.sending.Tally.{Tally}

@@ -1,27 +1,26 @@
 -- Cases: the answers in document 01's order, each with what it says. A refusal writes nothing.
-use Prim.Native.Nat.{ℕ, zero, suc, _≤_, _<_}
+use Prim.Native.Nat.{ℕ, _≤_, _<_}
 use native.Mathlib.Omega.{arith}
-use mathlib.Core.Path.{_≡_, refl, ap}
+use mathlib.Core.Path.{_≡_, refl}
 use mathlib.Core.Logic.{_≢_, inl, inr}
-use mathlib.Core.List.{List, [], _∷_, _++_}
+use mathlib.Core.List.{List, _++_}
 use mathlib.Core.Option.{Option, none, some}
 use lib.ListN.{length, drop}
 use borrow.Author.Tests.{lt-ltb, le-ltb, le-leb, lt-leb}
-use Rattle.meaning.specs.Rows.{alike, at, rowsOf}
+use Rattle.meaning.specs.Rows.{rowsOf}
 use Rattle.meaning.specs.Rules.{Rule}
-use Rattle.meaning.specs.Closed.{ClosedFor, openRows, FirstOpenFor}
+use Rattle.meaning.specs.Closed.{openRows}
 use Rattle.tables.specs.declared.Flaw.{Flaw}
 use Rattle.tables.specs.declared.Flaw.the-variants.{Limits, Length, Rows, Value, Order}
 use Rattle.tables.specs.declared.Checked.{Checked}
 use Rattle.tables.specs.declared.Checked.the-variants.{Sound, Flawed}
 use Rattle.tables.specs.Check.{checkedOf}
 use Rattle.meaning.proofs.Tests.{lt-or-le}
-use Rattle.meaning.proofs.Given.{open-none, open-first}
 use Rattle.meaning.proofs.Flat.{rows-whole}
 use Rattle.tables.proofs.laws.Promised.{checked-sound}
 use Rattle.makers.specs.declared.Made.{Made}
 use Rattle.makers.specs.declared.Made.the-variants.{Book, Family, Room, Flawed as Refused}
-use Rattle.makers.specs.Made.{numberOf, valuesOf, rulesMade, bytesMade, openAs, unlessFlawed, unlessOpen, fitting, bookAlike, closedOf, madeOf, Tested}
+use Rattle.makers.specs.Made.{numberOf, rulesMade, bytesMade, openAs, unlessFlawed, unlessOpen, fitting, bookAlike, closedOf, madeOf, Tested}
 
 -- ---- the numbers
 
@@ -94,74 +93,3 @@ module _ (n l family : ℕ) (table : List ℕ) where
   -- a refusal writes nothing
   pub made-stays : (room : List ℕ) → numberOf (madeOf n l family table room .0) ≢ 0 → madeOf n l family table room .1 ≡ room
   made-stays room = stays room (madeOf n l family table room) (made-cases room)
-
-  -- ---- what each refusal says
-
-  -- 1 to 5
-  flawed-is : (room : List ℕ) (o : Made × List ℕ) → Makes room o → (f : Flaw) → o .0 ≡ Refused f → checkedOf n l table ≡ Flawed f
-  flawed-is room o (flawed g e) f q = let z : g ≡ f = cc in rw z at e
-  flawed-is room o (unknown t h) f q = let z : _≡_ {A = ℕ} 0 1 = cc in absurd (omega arith)
-  flawed-is room o (unclosed t h numbers e) f q = absurd (omega (arith, ap numberOf q, open-number numbers, flaw-number f))
-  flawed-is room o (narrow t h e k) f q = let z : _≡_ {A = ℕ} 0 1 = cc in absurd (omega arith)
-  flawed-is room o (given t h e k) f q = let z : _≡_ {A = ℕ} 0 1 = cc in absurd (omega arith)
-
-  pub made-flawed : (room : List ℕ) (f : Flaw) → madeOf n l family table room .0 ≡ Refused f → checkedOf n l table ≡ Flawed f
-  made-flawed room = flawed-is room (madeOf n l family table room) (made-cases room)
-
-  -- 6
-  unknown-is : (room : List ℕ) (o : Made × List ℕ) → Makes room o → numberOf (o .0) ≡ 6 → Tested n l table × (3 < family)
-  unknown-is room o (flawed f e) q = absurd (omega (arith, flaw-number f))
-  unknown-is room o (unknown t h) q = (t, h)
-  unknown-is room o (unclosed t h numbers e) q = absurd (omega (arith, open-number numbers))
-  unknown-is room o (narrow t h e k) q = absurd (omega arith)
-  unknown-is room o (given t h e k) q = absurd (omega arith)
-
-  pub made-family : (room : List ℕ) → numberOf (madeOf n l family table room .0) ≡ 6 → Tested n l table × (3 < family)
-  made-family room = unknown-is room (madeOf n l family table room) (made-cases room)
-
-  -- 7: the rows that it names are the first whose result is no row
-  pub record Unclosed (numbers : List ℕ) : Type 0 where
-    pub tested : Tested n l table
-    pub families : family ≤ 3
-    pub first : FirstOpenFor family (rowsOf l table) numbers
-
-  open-values : (numbers : List ℕ) → FirstOpenFor family (rowsOf l table) numbers → valuesOf (openAs numbers) ≡ numbers
-  open-values numbers f = go family f
-    where
-      go : (family : ℕ) → FirstOpenFor family (rowsOf l table) numbers → valuesOf (openAs numbers) ≡ numbers
-      go zero f = absurd f
-      go (suc zero) f = rw (f .found)
-      go (suc (suc zero)) f = rw (f .found)
-      go (suc (suc (suc g))) f = rw (f .found)
-
-  unclosed-is : (room : List ℕ) (o : Made × List ℕ) → Makes room o → numberOf (o .0) ≡ 7 → Unclosed (valuesOf (o .0))
-  unclosed-is room o (flawed f e) q = absurd (omega (arith, flaw-number f))
-  unclosed-is room o (unknown t h) q = absurd (omega arith)
-  unclosed-is room o (unclosed t h numbers e) q =
-      let f = open-first family (rowsOf l table) numbers e in
-      rw (open-values numbers f) (record { tested = t; families = h; first = f })
-  unclosed-is room o (narrow t h e k) q = absurd (omega arith)
-  unclosed-is room o (given t h e k) q = absurd (omega arith)
-
-  pub made-open : (room : List ℕ) → numberOf (madeOf n l family table room .0) ≡ 7 → Unclosed (valuesOf (madeOf n l family table room .0))
-  made-open room = unclosed-is room (madeOf n l family table room) (made-cases room)
-
-  -- 8: the room is shorter than the book, whose length is given
-  pub record Short (room values : List ℕ) : Type 0 where
-    pub tested : Tested n l table
-    pub families : family ≤ 3
-    pub closed : ClosedFor family (rowsOf l table)
-    pub shorter : length room < length bytes
-    pub length-needed : values ≡ length bytes ∷ []
-
-  short-is : (room : List ℕ) (o : Made × List ℕ) → Makes room o → numberOf (o .0) ≡ 8 → Short room (valuesOf (o .0))
-  short-is room o (flawed f e) q = absurd (omega (arith, flaw-number f))
-  short-is room o (unknown t h) q = absurd (omega arith)
-  short-is room o (unclosed t h numbers e) q = absurd (omega (arith, open-number numbers))
-  short-is room o (narrow t h e k) q =
-      let closed = open-none family (alike n l) (rowsOf l table) (t .rows-sound) .0 e in
-      record { tested = t; families = h; closed = closed; shorter = k; length-needed = refl }
-  short-is room o (given t h e k) q = absurd (omega arith)
-
-  pub made-short : (room : List ℕ) → numberOf (madeOf n l family table room .0) ≡ 8 → Short room (valuesOf (madeOf n l family table room .0))
-  made-short room = short-is room (madeOf n l family table room) (made-cases room)

@@ -13,9 +13,9 @@ use Rattle.meaning.specs.Lists.{opt}
 use Rattle.meaning.specs.Rows.{Row, Sizes, at}
 use Rattle.meaning.specs.Rules.{Literal, atMost, atLeast, Rule}
 use Rattle.meaning.specs.General.{differs, earlier}
-use Rattle.hand.specs.declared.Hand.{Hand}
-use Rattle.hand.specs.Inner.{ruleIn, Sane, Holding}
-use Rattle.hand.proofs.laws.Hand.{rule-length}
+use Rattle.reducing.specs.declared.Hand.{Hand}
+use Rattle.reducing.specs.Inner.{ruleIn, Sane, Holding}
+use Rattle.reducing.proofs.laws.Hand.{rule-length}
 use Rattle.makers.specs.Inner.{Spare}
 
 -- ---- a hand

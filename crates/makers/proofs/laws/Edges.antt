@@ -14,8 +14,9 @@ use Rattle.meaning.specs.Rows.{Row, Sizes, at, rowsOf}
 use Rattle.meaning.specs.Rules.{Literal, atMost, atLeast, Rule, setting}
 use Rattle.meaning.specs.General.{differs, earlier, leftAt, rightAt}
 use Rattle.meaning.specs.Bytes.{literal}
-use Rattle.hand.specs.declared.Hand.{Hand}
-use Rattle.hand.specs.Inner.{ruleIn, Holding, Known, Ready}
+use Rattle.reducing.specs.declared.Hand.{Hand}
+use Rattle.reducing.specs.Inner.{ruleIn, Holding, Ready}
+use Rattle.literals.specs.Inner.{Known}
 use Rattle.meaning.proofs.All.{All-append}
 use Rattle.makers.specs.declared.sending.Tally.{Tally}
 use Rattle.makers.specs.Inner.{Spare, sends, sendsFor, Countable, Sent, ruledOf, edgeAt, Sides, SentEdges}

@@ -3,7 +3,7 @@ use Prim.Native.Nat.{ℕ, _+_, _≤_}
 use native.Mathlib.Omega.{arith}
 use mathlib.Core.Path.{_≡_, refl, sym, ap, _∙_}
 use mathlib.Core.List.{List, [], _∷_, map}
-use lib.ListN.{length, length-append, length-map}
+use lib.ListN.{length, length-append}
 use Rattle.meaning.specs.Rows.{Row, Sizes}
 use Rattle.meaning.specs.Rules.{Rule, Part, done, skip, hold, Parts, ended, next}
 use Rattle.meaning.specs.General.{general}
@@ -11,6 +11,7 @@ use Rattle.meaning.specs.Families.{reduceFor, rulesFor}
 use Rattle.meaning.specs.Bytes.{encodeRule, encodeRules}
 use Rattle.meaning.proofs.Encoded.{encodeRule-length}
 use Rattle.meaning.proofs.Made.{rules-parts}
+use Rattle.meaning.proofs.Bounds.{rules-length}
 use Rattle.makers.specs.declared.sending.Tally.{Tally}
 use Rattle.makers.specs.Inner.{State, sendsFor, Sent, Measured, Needed}
 use Rattle.makers.proofs.laws.Sending.{sends-length, sends-rules}
@@ -54,10 +55,6 @@ general-is ns rows = go (general ns rows)
     go [] = refl
     go (r ∷ rs) = ap (λ (l : List Rule). r ∷ l) (go rs)
 
-rules-count : (family : ℕ) (ns : Sizes) (rows : List Row) → length (rulesFor family ns rows) ≡ length (general ns rows)
-unfolding rulesFor
-rules-count family ns rows = length-map (general ns rows) (reduceFor family rows)
-
 module _ (ns : Sizes) (family : ℕ) (rows : List Row) (space : ℕ) (t : Tally) where
   pub needed-bound : Measured ns 0 rows t → t .length ≤ space → Needed ns family rows space t
   needed-bound m h =
@@ -65,7 +62,7 @@ module _ (ns : Sizes) (family : ℕ) (rows : List Row) (space : ℕ) (t : Tally)
       record {
         enough = omega (arith, m .length-is, ap (λ (l : List Rule). length (encodeRules l)) (general-is ns rows));
         exact = λ k. absurd (omega arith);
-        rules-is = m .rules-is ∙ rules-count 0 ns rows ∙ sym (rules-count family ns rows);
+        rules-is = m .rules-is ∙ rules-length 0 ns rows ∙ sym (rules-length family ns rows);
         few = m .few;
       }
 

@@ -10,10 +10,10 @@ use Rattle.meaning.specs.Lists.{opt}
 use Rattle.meaning.specs.Rows.{Row, Sizes, at, rowsOf}
 use Rattle.meaning.specs.Rules.{atMost, atLeast, setting}
 use Rattle.meaning.specs.General.{earlier, midAt}
-use Rattle.hand.specs.declared.Hand.{Hand}
-use Rattle.hand.specs.Inner.{ruleIn, Holding, Ready}
+use Rattle.reducing.specs.declared.Hand.{Hand}
+use Rattle.reducing.specs.Inner.{ruleIn, Holding, Ready}
 use Rattle.meaning.proofs.All.{All-append}
-use Rattle.hand.proofs.laws.Hand.{rule-length}
+use Rattle.reducing.proofs.laws.Hand.{rule-length}
 use Rattle.makers.specs.declared.sending.Tally.{Tally}
 use Rattle.makers.specs.Inner.{Spare, Sent, Apart, SentBetween}
 use Rattle.makers.proofs.laws.Earlier.{held-count, earlier-few}

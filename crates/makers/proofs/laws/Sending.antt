@@ -11,10 +11,10 @@ use Rattle.meaning.specs.Rows.{Row}
 use Rattle.meaning.specs.Rules.{Rule}
 use Rattle.meaning.specs.Families.{reduceFor}
 use Rattle.meaning.specs.Bytes.{encodeRule, encodeRules}
-use Rattle.hand.specs.declared.Hand.{Hand}
-use Rattle.hand.specs.Inner.{ruleIn, Sane, Holding}
+use Rattle.reducing.specs.declared.Hand.{Hand}
+use Rattle.reducing.specs.Inner.{ruleIn, Sane, Holding}
 use Rattle.books.specs.Inner.{putAt, putIn, Puts, ruleRecord}
-use Rattle.hand.proofs.laws.Hand.{rule-length, sane-bytes}
+use Rattle.reducing.proofs.laws.Hand.{rule-length, sane-bytes}
 use Rattle.meaning.proofs.Encoded.{encodeRule-length}
 use Rattle.books.proofs.laws.Records.{ruleRecord-is}
 use Rattle.books.proofs.laws.Put.{putAt-length, putAt-nothing, putAt-putAt, putIn-fits}

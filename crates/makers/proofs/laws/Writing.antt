@@ -1,10 +1,9 @@
 -- Writing: the book of a table written to the start of the room, or refusal 8.
 use Prim.Native.Nat.{ℕ, _+_, _≤_, _<_}
-use native.Mathlib.Nat.{zero-add}
 use native.Mathlib.Omega.{arith}
 use mathlib.Core.Path.{_≡_, sym, ap, _∙_}
 use mathlib.Core.List.{List, _++_, append-assoc}
-use lib.ListN.{length, drop, length-append}
+use lib.ListN.{length, length-append}
 use borrow.Author.Tests.{le-leb, lt-leb}
 use Rattle.meaning.specs.Rows.{Row, Sizes}
 use Rattle.meaning.specs.Rules.{Rule}
@@ -13,7 +12,7 @@ use Rattle.meaning.specs.Families.{rulesFor}
 use Rattle.meaning.specs.Bytes.{encodeRules, encodeHead, encodeEnd, encode}
 use Rattle.books.specs.Inner.{putAt, Puts}
 use Rattle.meaning.proofs.Encoded.{encode-length}
-use Rattle.books.proofs.laws.Put.{putAt-length, putAt-putAt, putIn-fits}
+use Rattle.books.proofs.laws.Put.{putAt-length, putAt-start, putAt-putAt, putIn-fits}
 use Rattle.makers.specs.declared.Made.{Made}
 use Rattle.makers.specs.declared.Made.the-variants.{Book, Room}
 use Rattle.makers.specs.declared.sending.Tally.{Tally}
@@ -29,10 +28,6 @@ put-more : (old xs ys : List ℕ) (at : ℕ) (mid new : List ℕ) → mid ≡ pu
 put-more old xs ys at mid new e q h p =
     let z : length xs ≡ 0 + length xs = omega arith in
     p ∙ rw (e, q ∙ z) (putAt-putAt old 0 xs ys (omega arith))
-
-put-start : (old bytes : List ℕ) → putAt old 0 bytes ≡ bytes ++ drop (length bytes) old
-unfolding putAt
-put-start old bytes = rw zero-add
 
 module _ (n : ℕ) (ns : Sizes) (family : ℕ) (rows : List Row) (count : ℕ) (room : List ℕ) (w : Writable n ns family rows count room) where
   rs : List Rule
@@ -62,7 +57,7 @@ module _ (n : ℕ) (ns : Sizes) (family : ℕ) (rows : List Row) (count : ℕ) (
       put-more room (head ++ encodeRules rs) encodeEnd (t .length) room₂ room₃ e₂ (omega arith) (omega arith) p₃ in
       record {
         long = omega (arith, last .next-is);
-        room = e₃ ∙ rw (append-assoc head (encodeRules rs) encodeEnd, w .count-is) (put-start room (encode n (length ns) family rs));
+        room = e₃ ∙ rw (append-assoc head (encodeRules rs) encodeEnd, w .count-is) (putAt-start room (encode n (length ns) family rs));
       }
 
 -- ---- the ways out

@@ -5,8 +5,8 @@ use borrow.Author.Needs.{needs}
 use Rattle.makers.proofs.make_alike.Statement.{statement}
 use Rattle.makers.proofs.make_alike.Tie as tie
 
-byte-requires : tie.Need-byte-requires
-byte-requires c κs = search needs
+narrow-requires : tie.Need-narrow-requires
+narrow-requires c κs = search needs
 
 array-share-prefix-space : tie.Need-array-share-prefix-space
 array-share-prefix-space c = search needs
@@ -27,7 +27,7 @@ pub make-alike-spec : {M : Type 1} → statement M
 make-alike-spec =
     tie.close
     (tie.spec
-    byte-requires
+    narrow-requires
     array-share-prefix-space
     slice-aggregate-sizes
     book-requires

@@ -17,10 +17,10 @@ use Rattle.tables.specs.Check.{tryHigh, firstHigh, tryLow, firstLow, row
 use Rattle.tables.proofs.laws.Loops.{first-end}
 use Rattle.tables.specs.Inner.{highFrom, Passed, noted, lowFrom, Stands}
 
-orElse-none : {A : Type 0} (o : Option A) → orElse o none ≡ o
+orElse-nothing : {A : Type 0} (o : Option A) → orElse o none ≡ o
 unfolding orElse
-orElse-none none = refl
-orElse-none (some a) = refl
+orElse-nothing none = refl
+orElse-nothing (some a) = refl
 
 -- ---- the rows: k of them are passed, and the next stands at `start`
 
@@ -89,7 +89,7 @@ module _ (ns : Sizes) (table : List ℕ) where
           let rows = rowsOf (length ns) table in
           let e : length rows - 1 ≤ k = omega (arith, rows-count (length ns) table, checking-all) in
           rw (c .high, c .rising, first-end (tryHigh ns table) (length table) start h, first-end (tryLow rows) (length rows - 1) k e)
-          (orElse-none (noted low))
+          (orElse-nothing (noted low))
 
       pub checking-sound : low ≡ 0 → Sound k ≡ answer (length table / length ns) (rowFlawOf ns table)
       checking-sound e = rw (checking-noted, checking-all, e)

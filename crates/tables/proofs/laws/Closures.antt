@@ -12,24 +12,11 @@ use lib.ListN.{length}
 use Rattle.meaning.specs.Rows.{Row, rowsOf}
 use Rattle.meaning.specs.Rules.{Side, low, high}
 use Rattle.meaning.specs.Closed.{first, unless, firstPair, firstTriple, tryPair, tryTriple, openPair, openTriple, openRows}
-use Rattle.meaning.proofs.Search.{none-some}
 use Rattle.meaning.proofs.Flat.{rows-count}
 use Rattle.tables.specs.declared.Closure.{Closure}
 use Rattle.tables.specs.declared.Closure.the-variants.{Closed, Pair, Triple}
 use Rattle.tables.specs.Inner.{shown, pairAfter, tripleAfter, triplesAfter}
 use Rattle.tables.proofs.laws.Loops.{first-end, first-hit, first-miss}
-
--- it is determined by them
-pub shown-injective : (a b : Closure) → shown a ≡ shown b → a ≡ b
-shown-injective Closed Closed e = refl
-shown-injective Closed (Pair i j) e = absurd (none-some e)
-shown-injective Closed (Triple i j k) e = absurd (none-some e)
-shown-injective (Pair i j) Closed e = absurd (none-some (sym e))
-shown-injective (Pair i j) (Pair i′ j′) e = cc
-shown-injective (Pair i j) (Triple i′ j′ k′) e = let z : _≡_ {A = ℕ} 0 1 = cc in absurd (omega arith)
-shown-injective (Triple i j k) Closed e = absurd (none-some (sym e))
-shown-injective (Triple i j k) (Pair i′ j′) e = let z : _≡_ {A = ℕ} 0 1 = cc in absurd (omega arith)
-shown-injective (Triple i j k) (Triple i′ j′ k′) e = cc
 
 -- ---- one loop for each row number, the last changing fastest
 

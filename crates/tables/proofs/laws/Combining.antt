@@ -13,7 +13,8 @@ use Rattle.meaning.specs.Rules.{Side, low, high}
 use Rattle.meaning.specs.Families.{pick, mid}
 use Rattle.meaning.proofs.Combined.{at-both, at-median, length-both, length-median}
 use Rattle.meaning.proofs.Flat.{row-ends, row-length, row-at}
-use Rattle.tables.specs.Inner.{Rising, sideOf, Ready, Known, pairOf, medianOf}
+use Rattle.tables.specs.Inner.{Rising, Ready, Known, pairOf, medianOf}
+use Rattle.meaning.specs.Inner.{sideOf}
 
 -- ---- one value
 

@@ -13,8 +13,8 @@ use Rattle.meaning.proofs.Tests.{Case, is, isnt, case, and-l, and-r, and-i}
 use Rattle.meaning.specs.Rows.{Row, Sizes, at, row, ascending, allWithin, sound, rowsOf}
 use Rattle.meaning.specs.Closed.{orElse, unless}
 use Rattle.meaning.proofs.Search.{none-some, orElse-none}
-use Rattle.meaning.proofs.Members.{within-at, row-mem, allWithin-mem}
-use Rattle.meaning.proofs.Sound.{within-of, allWithin-of}
+use Rattle.meaning.proofs.Members.{within-at, within-of, row-mem, allWithin-mem}
+use Rattle.meaning.proofs.Sound.{allWithin-of}
 use Rattle.meaning.proofs.Flat.{rows-count, row-length, row-at, row-ends}
 use Rattle.tables.specs.declared.Flaw.{Flaw}
 use Rattle.tables.specs.declared.Flaw.the-variants.{Limits, Length, Rows, Value, Order}

@@ -1,25 +1,24 @@
 -- Promised: what the answer of the check says. `Sound` is given just for a sound table, and each refusal shows what is wrong.
-use Prim.Native.Nat.{ℕ, _*_, _/_, _%_, _≤_, _<_}
+use Prim.Native.Nat.{ℕ, _*_, _/_, _<_}
 use native.Mathlib.Omega.{arith}
-use native.Mathlib.Nat.{mod-lt, mul-mod-left, div-add-mod'}
+use native.Mathlib.Nat.{mul-mod-left, div-add-mod'}
 use mathlib.Core.Path.{_≡_, refl, sym, ap, _∙_}
 use mathlib.Core.Logic.{_↔_}
 use mathlib.Core.Bool.{true, false, false≢true}
 use mathlib.Core.List.{List}
 use mathlib.Core.Option.{Option, none, some}
 use lib.ListN.{length}
-use Rattle.meaning.specs.Rows.{alike, at, ascending, allWithin, sound, rowsOf}
+use Rattle.meaning.specs.Rows.{alike, at, ascending, allWithin, sound, rowsOf, limits, Limited}
 use Rattle.meaning.specs.Closed.{orElse, unless}
 use Rattle.meaning.proofs.Tests.{is, isnt, case, and-r}
-use Rattle.meaning.proofs.Alike.{alike-length, alike-at}
+use Rattle.meaning.proofs.Alike.{alike-length}
 use Rattle.meaning.proofs.Flat.{rows-whole}
 use Rattle.tables.specs.declared.Flaw.{Flaw}
 use Rattle.tables.specs.declared.Flaw.the-variants.{Limits, Length, Rows, Value, Order}
-use Rattle.tables.specs.declared.Checked.{Checked}
 use Rattle.tables.specs.declared.Checked.the-variants.{Sound, Flawed}
-use Rattle.tables.specs.Check.{limits, Limited, flawOf, answer, checkedOf, Passes}
+use Rattle.tables.specs.Check.{flawOf, answer, checkedOf, Passes}
 use Rattle.tables.specs.Inner.{Ready}
-use Rattle.tables.proofs.laws.Refusals.{limits-hold}
+use Rattle.meaning.proofs.Limits.{limits-hold}
 use Rattle.tables.proofs.laws.Flaws.{Counted, Shows, flaw-none, flaw-some}
 
 -- what a refusal shows of a table of rows of l values below n
@@ -71,22 +70,6 @@ module _ (n l : ℕ) (table : List ℕ) where
       shows (Value p) c t = (c, t)
       shows (Order k) c t = (c, t)
 
-  pub checked-limits : (checkedOf n l table ≡ Flawed Limits) ↔ (¬ Limited n l)
-  checked-limits = (
-    checked-flawed Limits,
-    λ m. elim (case (limits n l)) [ is t ↦ absurd (m (limits-hold n l .0 t)) | isnt t ↦ checked-outside t ],
-  )
-
-  -- the first value too high, in terms of n
-  pub checked-value : (p : ℕ) → checkedOf n l table ≡ Flawed (Value p) → (p < length table) × (n ≤ at table p) × ((q : ℕ) → q < p → at table q < n)
-  checked-value p e =
-      let (c, d) = checked-flawed (Value p) e in
-      let h = d .1 in
-      (h .inside, rw (size c p) at (h .high), λ q g. rw (size c q) at (h .before q g))
-    where
-      size : Limited n l → (p : ℕ) → at (alike n l) (p % length (alike n l)) ≡ n
-      size c p = alike-at n l (p % length (alike n l)) (omega (arith, mod-lt p (wide c), alike-length n l))
-
   module _ (k : ℕ) where
     sound-passes : checkedOf n l table ≡ Sound k → Passes n l table k
     sound-passes e = elim (case (limits n l)) [
@@ -126,10 +109,3 @@ module _ (n l : ℕ) (table : List ℕ) where
     narrow = c .limited .narrow;
     ordered = record { wide = c .limited .wide; rising = and-r (allWithin (alike n l) (rowsOf l table)) (ascending (rowsOf l table)) (c .rows-sound) };
   }
-
-  -- as a caller of the check has it
-  pub checked-passes : (r : Checked) (k : ℕ) → r ≡ checkedOf n l table → r ≡ Sound k → Passes n l table k
-  checked-passes r k e f = checked-sound k .0 (sym e ∙ f)
-
-  pub checked-ready : (r : Checked) (k : ℕ) → r ≡ checkedOf n l table → r ≡ Sound k → Ready l table
-  checked-ready r k e f = passes-ready k (checked-passes r k e f)

@@ -1,5 +1,5 @@
 -- `books::reader::read` meets its contract: each way out is a lemma of Head.
-use Rattle.books.proofs.laws.Head.{read-mark, read-n, read-l, read-rest, read-sized}
+use Rattle.books.proofs.laws.Head.{read-mark, read-n, read-l, read-rest, read-limited}
 use borrow.Author.Needs.{needs}
 use Rattle.books.proofs.reader.read.Statement.{statement}
 use Rattle.books.proofs.reader.read.Tie as tie
@@ -41,7 +41,7 @@ returns-3 : tie.Need-returns-3
 returns-3 c = search read-l
 
 rest-requires : tie.Need-rest-requires
-rest-requires c κs = search read-sized
+rest-requires c κs = search read-limited
 
 returns-4 : tie.Need-returns-4
 returns-4 c = search read-rest

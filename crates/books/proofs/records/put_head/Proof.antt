@@ -4,20 +4,20 @@ use borrow.Author.Needs.{needs}
 use Rattle.books.proofs.records.put_head.Statement.{statement}
 use Rattle.books.proofs.records.put_head.Tie as tie
 
-byte-requires : tie.Need-byte-requires
-byte-requires c κs = search needs
+narrow-requires : tie.Need-narrow-requires
+narrow-requires c κs = search needs
 
-byte-requires-2 : tie.Need-byte-requires-2
-byte-requires-2 c κs = search needs
+narrow-requires-2 : tie.Need-narrow-requires-2
+narrow-requires-2 c κs = search needs
 
-byte-requires-3 : tie.Need-byte-requires-3
-byte-requires-3 c κs = search needs
+narrow-requires-3 : tie.Need-narrow-requires-3
+narrow-requires-3 c κs = search needs
 
-byte-requires-4 : tie.Need-byte-requires-4
-byte-requires-4 c κs = search needs
+narrow-requires-4 : tie.Need-narrow-requires-4
+narrow-requires-4 c κs = search needs
 
-byte-requires-5 : tie.Need-byte-requires-5
-byte-requires-5 c κs = search needs
+narrow-requires-5 : tie.Need-narrow-requires-5
+narrow-requires-5 c κs = search needs
 
 slice-aggregate-put : tie.Need-slice-aggregate-put
 slice-aggregate-put c = search needs
@@ -35,11 +35,11 @@ pub put-head-spec : {M : Type 1} → statement M
 put-head-spec =
     tie.close
     (tie.spec
-    byte-requires
-    byte-requires-2
-    byte-requires-3
-    byte-requires-4
-    byte-requires-5
+    narrow-requires
+    narrow-requires-2
+    narrow-requires-3
+    narrow-requires-4
+    narrow-requires-5
     slice-aggregate-put
     put-requires
     same-length

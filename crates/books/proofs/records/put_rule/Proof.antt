@@ -14,8 +14,8 @@ add-next c = search needs
 returns : tie.Need-returns
 returns c = search (puts-no-rule, arith)
 
-byte-requires : tie.Need-byte-requires
-byte-requires c κs = search needs
+narrow-requires : tie.Need-narrow-requires
+narrow-requires c κs = search needs
 
 slice-aggregate-copy : tie.Need-slice-aggregate-copy
 slice-aggregate-copy c = search needs
@@ -39,7 +39,7 @@ put-rule-spec =
     add-start
     add-next
     returns
-    byte-requires
+    narrow-requires
     slice-aggregate-copy
     copy-requires
     copy-requires-2

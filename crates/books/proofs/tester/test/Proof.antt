@@ -1,5 +1,5 @@
 -- `books::tester::test` meets its contract: by cases on the reading.
-use Rattle.books.proofs.laws.Judged.{test-faulty, test-sized, test-walkable, test-judged}
+use Rattle.books.proofs.laws.Judged.{test-faulty, test-limited, test-walkable, test-judged}
 use borrow.Author.Needs.{needs}
 use Rattle.books.proofs.tester.test.Statement.{statement}
 use Rattle.books.proofs.tester.test.Tie as tie
@@ -11,7 +11,7 @@ enum-known-n : tie.Need-enum-known-n
 enum-known-n c = search needs
 
 judge-alike-requires : tie.Need-judge-alike-requires
-judge-alike-requires c κs = search (test-sized, test-walkable)
+judge-alike-requires c κs = search (test-limited, test-walkable)
 
 enum-known-f : tie.Need-enum-known-f
 enum-known-f c = search needs

@@ -17,8 +17,8 @@ empty-requires c κs = search needs
 loop-holds : tie.Need-loop-holds Inv-loop μ-loop
 loop-holds c = search differs-start
 
-byte-requires : tie.Need-byte-requires Inv-loop μ-loop
-byte-requires c κs = search needs
+narrow-requires : tie.Need-narrow-requires Inv-loop μ-loop
+narrow-requires c κs = search needs
 
 shared-slice-read-differ : tie.Need-shared-slice-read-differ Inv-loop μ-loop
 shared-slice-read-differ c = search needs
@@ -49,7 +49,7 @@ differs-before-spec =
     μ-loop
     empty-requires
     loop-holds
-    byte-requires
+    narrow-requires
     shared-slice-read-differ
     shared-slice-read-differ-2
     differ-requires

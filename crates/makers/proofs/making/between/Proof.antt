@@ -8,8 +8,8 @@ use Rattle.makers.proofs.making.between.Tie as tie
 differs-before-requires : tie.Need-differs-before-requires
 differs-before-requires c κs = search needs
 
-byte-requires : tie.Need-byte-requires
-byte-requires c κs = search needs
+narrow-requires : tie.Need-narrow-requires
+narrow-requires c κs = search needs
 
 shared-slice-read-push : tie.Need-shared-slice-read-push
 shared-slice-read-push c = search needs
@@ -44,9 +44,9 @@ returns : tie.Need-returns
 returns c =
     let at-push2 = c .before .before .before .before .before .before .before in
     let at-push = at-push2 .before .before in
-    let at-byte = at-push .before .before in
-    let start = at-byte .before .before .before .before .before .before .before in
-    apart-sent _ _ _ _ _ (start .pre .0) _ (at-byte .before .differs-before .ensures) _ (at-byte .byte .ensures) _ (at-push .push .ensures)
+    let at-narrow = at-push .before .before in
+    let start = at-narrow .before .before .before .before .before .before .before in
+    apart-sent _ _ _ _ _ (start .pre .0) _ (at-narrow .before .differs-before .ensures) _ (at-narrow .narrow .ensures) _ (at-push .push .ensures)
     _ (at-push2 .push2 .ensures) _ _ _ _ _ _ (c .before .before .before .before .apart .ensures) (c .before .before .slot .ensures)
 
 pub between-spec : {M : Type 1} → statement M
@@ -54,7 +54,7 @@ between-spec =
     tie.close
     (tie.spec
     differs-before-requires
-    byte-requires
+    narrow-requires
     shared-slice-read-push
     push-requires
     shared-slice-read-push-2

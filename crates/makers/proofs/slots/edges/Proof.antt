@@ -19,8 +19,8 @@ differs-before-requires c κs = search needs
 loop-holds : tie.Need-loop-holds Inv-loop μ-loop
 loop-holds c = search edges-start
 
-byte-requires : tie.Need-byte-requires Inv-loop μ-loop
-byte-requires c κs = search needs
+narrow-requires : tie.Need-narrow-requires Inv-loop μ-loop
+narrow-requires c κs = search needs
 
 shared-slice-read-push : tie.Need-shared-slice-read-push Inv-loop μ-loop
 shared-slice-read-push c = search needs
@@ -60,9 +60,9 @@ loop-again c =
     let at-slot = c .before .before .before .before .before in
     let at-ruled = at-slot .before .before in
     let at-push = at-ruled .before .before .before in
-    let at-byte = at-push .before .before in
-    let in-loop = at-byte .before in
-    edges-on _ _ _ _ _ _ _ _ _ _ _ _ (in-loop .before .loop .inv) (in-loop .loop-test .taken) _ _ (at-byte .byte .ensures) (at-push .push .ensures)
+    let at-narrow = at-push .before .before in
+    let in-loop = at-narrow .before in
+    edges-on _ _ _ _ _ _ _ _ _ _ _ _ (in-loop .before .loop .inv) (in-loop .loop-test .taken) _ _ (at-narrow .narrow .ensures) (at-push .push .ensures)
     _ _ _ _ (at-ruled .ruled .ensures) (at-slot .slot .ensures) (at-slot .slot .kept .1 .1 .1 .1 .1 .0) (c .differ .ensures)
 
 same-length : tie.Need-same-length Inv-loop μ-loop
@@ -79,7 +79,7 @@ edges-spec =
     μ-loop
     differs-before-requires
     loop-holds
-    byte-requires
+    narrow-requires
     shared-slice-read-push
     push-requires
     shared-slice-read-ruled

@@ -4,7 +4,8 @@ use native.Mathlib.Omega.{arith}
 use Rattle.meaning.specs.Rows.{rowsOf}
 use Rattle.meaning.specs.Closed.{openPair}
 use Rattle.tables.proofs.laws.Combining.{is-known}
-use Rattle.tables.specs.Inner.{sideOf, pairAfter}
+use Rattle.tables.specs.Inner.{pairAfter}
+use Rattle.meaning.specs.Inner.{sideOf}
 use Rattle.tables.proofs.laws.Closures.{Looking, look-end, look-past, look-answer, pairs-look}
 use borrow.Author.Needs.{needs}
 use Rattle.tables.proofs.Answers.{other}

@@ -2,7 +2,8 @@
 use Prim.Native.Nat.{_-_}
 use native.Mathlib.Omega.{arith}
 use Rattle.tables.proofs.laws.Combining.{Filled, pair-start, pair-on, filled-end}
-use Rattle.tables.specs.Inner.{sideOf, pairOf}
+use Rattle.tables.specs.Inner.{pairOf}
+use Rattle.meaning.specs.Inner.{sideOf}
 use borrow.Author.Needs.{needs}
 use Rattle.tables.proofs.combine.pair_row.Statement.{statement}
 use Rattle.tables.proofs.combine.pair_row.Tie as tie

@@ -1,5 +1,6 @@
 -- The array of sixteen sizes, cut at l, is the sizes of edition 1.
-use Rattle.tables.proofs.laws.Refusals.{cut-length, cut-wide, cut-checked}
+use Rattle.tables.proofs.laws.Refusals.{cut-wide, cut-checked}
+use Rattle.meaning.proofs.Limits.{lent-length}
 use borrow.Author.Needs.{needs}
 use Rattle.tables.proofs.flaws.check_alike.Statement.{statement}
 use Rattle.tables.proofs.flaws.check_alike.Tie as tie
@@ -11,7 +12,7 @@ array-share-prefix-space : tie.Need-array-share-prefix-space
 array-share-prefix-space c = search needs
 
 slice-aggregate-sizes : tie.Need-slice-aggregate-sizes
-slice-aggregate-sizes c = search cut-length
+slice-aggregate-sizes c = search lent-length
 
 check-sizes-requires : tie.Need-check-sizes-requires
 check-sizes-requires c κs = search cut-wide

@@ -1,0 +1,9 @@
+pub mod Hand
+pub mod Known
+pub mod Pass
+pub mod Change
+pub mod Counts
+pub mod Counted
+pub mod Reduced
+pub mod Joined
+pub mod Chosen
