@@ -21,7 +21,6 @@ pub mod Refusing
 pub mod Resuming
 pub mod Ruled
 pub mod Sifting
-pub mod Sizes
 pub mod Sorting
 pub mod Standing
 pub mod Starting

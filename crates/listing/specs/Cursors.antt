@@ -4,7 +4,7 @@ use mathlib.Core.Bool.{Bool, true, cond, _&&_}
 use mathlib.Core.List.{List, [], _∷_, _++_}
 use lib.Dec.{leb, eqb}
 use lib.ListN.{length, take, drop, replicate}
-use Rattle.meaning.specs.Rows.{Row, Sizes, alike, begins}
+use Rattle.meaning.specs.Rows.{Row, Sizes, alike, begins, limits}
 use Rattle.listing.specs.declared.cursor.Cursor.{Cursor}
 
 -- the prefix that a cursor is
@@ -57,16 +57,12 @@ alongIn ns c = moveTo ns c (nextValue (prefixOf c))
 abbrev pub upIn : Sizes → Cursor → Cursor
 upIn ns c = moveTo ns c (oneShorter (prefixOf c))
 
--- n from 1 to 64 and l from 1 to 16
-unfoldable pub inLimits : ℕ → ℕ → Bool
-inLimits n l = (leb 1 n && leb n 64) && (leb 1 l && leb l 16)
-
 -- the moves of edition 1: the same cursor where n or l is outside its limits
 unfoldable pub downOf : ℕ → ℕ → Cursor → Cursor
-downOf n l c = cond (inLimits n l) (downIn (alike n l) c) c
+downOf n l c = cond (limits n l) (downIn (alike n l) c) c
 
 unfoldable pub alongOf : ℕ → ℕ → Cursor → Cursor
-alongOf n l c = cond (inLimits n l) (alongIn (alike n l) c) c
+alongOf n l c = cond (limits n l) (alongIn (alike n l) c) c
 
 unfoldable pub upOf : ℕ → ℕ → Cursor → Cursor
-upOf n l c = cond (inLimits n l) (upIn (alike n l) c) c
+upOf n l c = cond (limits n l) (upIn (alike n l) c) c

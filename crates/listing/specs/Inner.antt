@@ -6,12 +6,12 @@ use mathlib.Core.Bool.{Bool, true, cond, false, _&&_, _||_, not}
 use mathlib.Core.Logic.{_⊎_}
 use lib.ListN.{length, getD, set}
 use lib.Dec.{T, leb, eqb, ltb}
-use Rattle.meaning.specs.Rows.{Sizes, begins, Row, at}
+use Rattle.meaning.specs.Rows.{Sizes, begins, Row, at, Limited}
 use Rattle.meaning.specs.Lists.{All, each}
 use Rattle.meaning.specs.Rules.{bound, Ordered, holds, met}
 use Rattle.meaning.specs.Bytes.{ruleAt, endAt, literalAt, rulesAt, placeAt, wordAt}
 use Rattle.meaning.specs.Listing.{dead, below}
-use Rattle.meaning.specs.Inner.{allLast}
+use Rattle.meaning.specs.Inner.{allLast, Sized}
 use Rattle.books.specs.Inner.{putAt}
 use Rattle.listing.specs.declared.cursor.Cursor.{Cursor}
 use Rattle.listing.specs.Cursors.{clean, cursorOk, prefixOf, cursorOf}
@@ -21,18 +21,6 @@ use Rattle.listing.specs.declared.scan.Judged.{Judged}
 use Rattle.listing.specs.declared.scan.Span.{Span}
 use Rattle.listing.specs.declared.scan.Scanned.{Scanned}
 use Rattle.listing.specs.declared.steps.Walk.{Walk}
-
--- at most sixteen settings, each of 1 to 64 values
-pub record Limited (ns : List ℕ) : Type 0 where
-  pub short : length ns ≤ 16
-  pub some : (k : ℕ) → k < length ns → 1 ≤ getD ns k 0
-  pub few : (k : ℕ) → k < length ns → getD ns k 0 ≤ 64
-
-pub record Limits (n l : ℕ) : Type 0 where
-  pub some : 1 ≤ n
-  pub few : n ≤ 64
-  pub settings : 1 ≤ l
-  pub short : l ≤ 16
 
 -- the contracts: the answer, and that a cursor has sixteen values, which a good one's prefix rests on
 pub record Cleaned (c : Cursor) (r : Bool) : Type 0 where
@@ -65,10 +53,6 @@ pub record Stands (b : List ℕ) (at : ℕ) : Type 0 where
 abbrev pub AllStand : List ℕ → ℕ → ℕ → Type 0
 AllStand b at zero = Unit {0}
 AllStand b at (suc k) = Stands b at × AllStand b (endAt b at) k
-
--- a literal of sign g and bound d, of the value v
-unfoldable pub holdsBy : ℕ → ℕ → ℕ → Bool
-holdsBy g d v = cond (eqb g 0) (leb v d) (leb d v)
 
 -- of k literals from place p on: the first that is on a setting of the prefix x and holds; else what is left from the first on a
 -- later setting on
@@ -396,7 +380,7 @@ pub record Ready (ns : Sizes) (room : List ℕ) (cur : Cursor) (levels fit : ℕ
   pub cells : fit * length ns ≤ length room
   pub plain : Plain cur
   pub deep : cur .len + levels ≤ length ns
-  pub limited : Limited ns
+  pub limited : Sized ns
 
 pub record OpenIf (b : List ℕ) (d : Row → Bool) (x : Row) (p s e : List ℕ) (at k n levels : ℕ) : Type 0 where
   pub opens : (levels ≡ 0 → ⊥) → Open b d x p s e at k n
@@ -442,7 +426,7 @@ pub record Along (ns : Sizes) (c cur : Cursor) (levels : ℕ) : Type 0 where
 
 -- the rules of the book stand from place 7 on, the cursor is good, and so many rows fit
 pub record Resumes (b : List ℕ) (rules : ℕ) (ns : Sizes) (room : List ℕ) (c : Cursor) (fit : ℕ) : Type 0 where
-  pub limited : Limited ns
+  pub limited : Sized ns
   pub good : Good ns c
   pub cells : fit * length ns ≤ length room
   pub stand : AllStand b 7 rules
@@ -453,7 +437,7 @@ pub record Resumes (b : List ℕ) (rules : ℕ) (ns : Sizes) (room : List ℕ) (
 
 -- the rules of the book stand from place 7 on, and the sizes are within their limits
 pub record Standard (b : List ℕ) (rules : ℕ) (ns : Sizes) : Type 0 where
-  pub limited : Limited ns
+  pub limited : Sized ns
   pub settings : 1 ≤ length ns
   pub stand : AllStand b 7 rules
   pub count : wordAt b 5 ≡ rules
@@ -468,7 +452,7 @@ pub record Starts (b : List ℕ) (rules : ℕ) (ns : Sizes) (c : Cursor) (o : Li
 
 -- the same of a book of edition 1
 pub record Numbers (b : List ℕ) (n l rules : ℕ) : Type 0 where
-  pub limits : Limits n l
+  pub limits : Limited n l
   pub stand : AllStand b 7 rules
   pub count : wordAt b 5 ≡ rules
   pub few : rules ≤ 24576

@@ -1,10 +1,14 @@
 // The cursor: a prefix by value, and its moves. Inner functions take the sizes, one for each setting.
+use literals::limits;
+use literals::narrow;
 ghost use mathlib.Core.Path.{_≡_};
 ghost use mathlib.Core.List.{[]};
 ghost use Prim.Native.Nat.{_+_, _≤_, _<_};
 ghost use lib.ListN.{length};
-ghost use Rattle.listing.specs.Cursors.{cursorOf, fits, clean, downIn, alongIn, upIn, downOf, alongOf, upOf, inLimits};
-ghost use Rattle.listing.specs.Inner.{Limited, Cleaned, Tested};
+ghost use Rattle.meaning.specs.Rows.{limits};
+ghost use Rattle.meaning.specs.Inner.{Sized};
+ghost use Rattle.listing.specs.Cursors.{cursorOf, fits, clean, downIn, alongIn, upIn, downOf, alongOf, upOf};
+ghost use Rattle.listing.specs.Inner.{Cleaned, Tested};
 
 // A prefix: its length, and sixteen values of which those past the length are 0. Laid out as C has it.
 #[repr(C)]
@@ -62,7 +66,7 @@ pub fn cursor_ok(sizes: &[u8], c: Cursor) -> bool
 
 // The prefix one longer that ends in 0, or the same cursor where there is none.
 pub fn deeper(sizes: &[u8], c: Cursor) -> Cursor
-    requires { ⌜ Limited (now sizes) ⌝ }
+    requires { ⌜ Sized (now sizes) ⌝ }
     ensures { λ r. ⌜ r ≡ downIn (now (sizes .entry)) c ⌝ }
 {
     if !cursor_ok(sizes, c) {
@@ -81,7 +85,7 @@ pub fn deeper(sizes: &[u8], c: Cursor) -> Cursor
 
 // The prefix with the next value at its last place, or the same cursor where there is none.
 pub fn onward(sizes: &[u8], c: Cursor) -> Cursor
-    requires { ⌜ Limited (now sizes) ⌝ }
+    requires { ⌜ Sized (now sizes) ⌝ }
     ensures { λ r. ⌜ r ≡ alongIn (now (sizes .entry)) c ⌝ }
 {
     if !cursor_ok(sizes, c) {
@@ -103,7 +107,7 @@ pub fn onward(sizes: &[u8], c: Cursor) -> Cursor
 
 // The prefix one shorter, or the same cursor where there is none.
 pub fn back(sizes: &[u8], c: Cursor) -> Cursor
-    requires { ⌜ Limited (now sizes) ⌝ }
+    requires { ⌜ Sized (now sizes) ⌝ }
     ensures { λ r. ⌜ r ≡ upIn (now (sizes .entry)) c ⌝ }
 {
     if !cursor_ok(sizes, c) {
@@ -117,30 +121,6 @@ pub fn back(sizes: &[u8], c: Cursor) -> Cursor
     let mut values = c.values;
     values[last] = 0;
     Cursor { len: last, values }
-}
-
-// Is n from 1 to 64 and l from 1 to 16?
-fn limits(n: usize, l: usize) -> bool
-    ensures { λ r. ⌜ r ≡ inLimits n l ⌝ }
-{
-    if n == 0 {
-        return false;
-    }
-    if 64 < n {
-        return false;
-    }
-    if l == 0 {
-        return false;
-    }
-    l <= 16
-}
-
-// A size as a byte.
-pub fn narrow(n: usize) -> u8
-    requires { ⌜ n ≤ 64 ⌝ }
-    ensures { λ r. ⌜ r ≡ n ⌝ }
-{
-    n as u8
 }
 
 impl Cursor {

@@ -1,12 +1,12 @@
 // The page: its refusals in document 01's order, then the walk, and whether any visited prefix is left.
 use crate::cursor::Cursor;
 use crate::cursor::cursor_ok;
-use crate::cursor::narrow;
-use crate::scan::wide;
 use crate::start::start;
 use crate::steps::Walk;
 use books::Fault;
 use books::Reading;
+use literals::narrow;
+use literals::wide;
 ghost use mathlib.Core.Path.{_≡_};
 ghost use Prim.Native.Nat.{_≤_, _<_};
 ghost use lib.ListN.{length};

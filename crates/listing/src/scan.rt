@@ -1,22 +1,19 @@
 // One scan of the rules below a live prefix: which values may follow it, and which of the rules can still make a prefix below dead.
 use crate::cursor::Cursor;
 use crate::values::without;
+use literals::holds;
+use literals::rule_end;
+use literals::wide;
 ghost use mathlib.Core.Path.{_≡_};
 ghost use mathlib.Core.Bool.{false};
 ghost use mathlib.Core.List.{[], _∷_};
 ghost use Prim.Native.Nat.{_+_, _*_, _≤_, _<_};
 ghost use lib.ListN.{length};
+ghost use Rattle.literals.specs.Inner.{holdsBy};
 ghost use Rattle.meaning.specs.Bytes.{endAt, ruleAt, rulesAt};
 ghost use Rattle.meaning.specs.Listing.{dead};
 ghost use Rattle.listing.specs.Cursors.{prefixOf};
-ghost use Rattle.listing.specs.Inner.{Plain, Stands, holdsBy, earlyOf, intervalOf, Judges, AllStand, Passes, Trims, widenOf, Window, Scans};
-
-// A byte as a number.
-pub fn wide(x: u8) -> usize
-    ensures { λ r. ⌜ (r ≡ x) × (r < 256) ⌝ }
-{
-    x as usize
-}
+ghost use Rattle.listing.specs.Inner.{Plain, Stands, earlyOf, intervalOf, Judges, AllStand, Passes, Trims, widenOf, Window, Scans};
 
 // What the literals on the settings of a prefix say: the one at a place holds; or none does, and so many are left from a place on.
 pub enum Passed {
@@ -46,16 +43,6 @@ pub struct Scanned {
     pub allowed: u64,
     pub at: usize,
     pub rules: usize,
-}
-
-// Does the literal of this sign and bound hold of the value?
-pub fn holds(sign: u8, bound: u8, value: u8) -> bool
-    ensures { λ r. ⌜ r ≡ holdsBy sign bound value ⌝ }
-{
-    if sign == 0 {
-        return value <= bound;
-    }
-    bound <= value
 }
 
 // Of `count` literals from place p on, by setting ascending, those on the settings of the prefix.
@@ -191,15 +178,6 @@ fn widen(span: Span, lasts: bool, at: usize, i: usize) -> Span
     }
 }
 
-// Where the rule at place `at` ends.
-fn after(book: &[u8], at: usize) -> usize
-    requires { ⌜ endAt (now book) at ≤ length (now book) ⌝ }
-    ensures { λ r. ⌜ r ≡ endAt (now (book .entry)) at ⌝ }
-{
-    let count = wide(book[at + 2]);
-    at + 3 + 3 * count
-}
-
 // Scans `rules` rules from place `from` on, below the live prefix cur; the values outside `set` are forbidden already.
 pub fn scan(book: &[u8], from: usize, rules: usize, cur: Cursor, set: u64) -> Scanned
     requires { ⌜ Plain cur × Window (now book) (dead (rulesAt (now book) from rules)) (prefixOf cur) from rules × (dead (rulesAt (now book) from rules) (prefixOf cur) ≡ false) ⌝ }
@@ -217,7 +195,7 @@ pub fn scan(book: &[u8], from: usize, rules: usize, cur: Cursor, set: u64) -> Sc
         let j = judge(book, at, cur);
         allowed = without(allowed, j.low, j.high);
         span = widen(span, j.lasts, at, i);
-        at = after(book, at);
+        at = rule_end(book, at);
         i += 1;
     }
     Scanned {
@@ -269,7 +247,7 @@ pub fn trim(book: &[u8], at: usize, rules: usize, i: usize, v: u8) -> Run
         if !met_from(book, p, i, v) {
             return Run { at: p, rules: left };
         }
-        p = after(book, p);
+        p = rule_end(book, p);
         left -= 1;
     }
     Run { at: p, rules: left }

@@ -2,7 +2,7 @@
 // space a group gets, is decided by what is quick: no answer rests on it.
 use crate::groups::entry;
 use crate::groups::place;
-use crate::scan::wide;
+use literals::wide;
 ghost use mathlib.Core.Path.{_≡_};
 ghost use mathlib.Core.Bool.{cond};
 ghost use Prim.Native.Nat.{_+_, _*_, _≤_, _<_};

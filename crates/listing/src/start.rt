@@ -1,11 +1,11 @@
 // The start of a page's walk: whether any prefix is live, and whether the rules are sorted into groups first.
 use crate::cursor::Cursor;
-use crate::scan::wide;
 use crate::sorting::Bounds;
 use crate::sorting::fill;
 use crate::sorting::survey;
 use crate::steps::Walk;
 use crate::walk::resume;
+use literals::wide;
 ghost use mathlib.Core.Path.{_≡_};
 ghost use mathlib.Core.Bool.{false, _||_};
 ghost use mathlib.Core.List.{[]};

@@ -1,16 +1,17 @@
 // The steps of a page: one visit, a run of dead values, and the last level, whose live values are rows.
 use crate::cursor::Cursor;
-use crate::scan::wide;
 use crate::values::lacks;
+use literals::wide;
 ghost use mathlib.Core.Path.{_≡_};
 ghost use mathlib.Core.List.{[], _∷_, _++_};
 ghost use Prim.Native.Nat.{_+_, _*_, _-_, _≤_, _<_};
 ghost use lib.ListN.{length, getD};
+ghost use Rattle.meaning.specs.Inner.{Sized};
 ghost use Rattle.meaning.specs.Bytes.{rulesIn};
 ghost use Rattle.meaning.specs.Listing.{dead};
 ghost use Rattle.books.specs.Inner.{putAt};
 ghost use Rattle.listing.specs.Cursors.{prefixOf};
-ghost use Rattle.listing.specs.Inner.{Limited, Plain, pushOf, part, fromOf, S, walkOf, runs, Ready, Allows, skipOf, Skips, leafRows, leafRoom, leafOf};
+ghost use Rattle.listing.specs.Inner.{Plain, pushOf, part, fromOf, S, walkOf, runs, Ready, Allows, skipOf, Skips, leafRows, leafRoom, leafOf};
 
 // What a page has done so far: the last prefix visited and whether it is dead, the rows written, the steps made.
 pub struct Walk {
@@ -85,7 +86,7 @@ pub fn skip(
     fit: usize,
     budget: usize,
 ) -> Skipped
-    requires { ⌜ Plain cur × (cur .len < length (now sizes)) × Limited (now sizes) × Allows (dead (rulesIn (now book))) (prefixOf cur) set ⌝ }
+    requires { ⌜ Plain cur × (cur .len < length (now sizes)) × Sized (now sizes) × Allows (dead (rulesIn (now book))) (prefixOf cur) set ⌝ }
     ensures { λ r. ⌜ Skips (dead (rulesIn (now (book .entry)))) (now (sizes .entry)) cur fit budget w from (r .walk) (r .v) ⌝ }
 {
     let rows = w.rows;

@@ -8,30 +8,16 @@ use lib.Dec.{leb}
 use lib.ListN.{length, getD}
 use lib.Seq.{getD-take}
 use borrow.Author.Tests.{le-leb, lt-leb, eq-eqb, ne-eqb}
+use Rattle.literals.specs.Inner.{holdsBy}
 use Rattle.meaning.specs.Rows.{Row, at}
 use Rattle.meaning.specs.Rules.{holds}
 use Rattle.meaning.specs.Bytes.{literal, literalAt}
+use Rattle.literals.proofs.laws.Holding.{holdsBy-literal}
 use Rattle.listing.specs.declared.cursor.Cursor.{Cursor}
 use Rattle.listing.specs.declared.scan.Passed.the-variants.{Holds, Left}
 use Rattle.listing.specs.Cursors.{prefixOf}
-use Rattle.listing.specs.Inner.{Plain, holdsBy, earlyOf}
+use Rattle.listing.specs.Inner.{Plain, earlyOf}
 use Rattle.listing.proofs.laws.Prefixes.{plain-length}
-
--- ---- the ways out
-
-module _ (g d v : ℕ) where
-  pub holds-most : g ≡ 0 → leb v d ≡ holdsBy g d v
-  unfolding holdsBy
-  holds-most e = rw (eq-eqb g 0 e)
-
-  pub holds-least : (g ≡ 0 → ⊥) → leb d v ≡ holdsBy g d v
-  unfolding holdsBy
-  holds-least e = rw (ne-eqb g 0 e)
-
-pub by-literal : (g i d : ℕ) (x : Row) → holdsBy g d (at x i) ≡ holds (literal g i d) x
-unfolding holdsBy holds
-by-literal zero i d x = refl
-by-literal (suc g) i d x = rw (ne-eqb (suc g) 0 (λ e. omega arith))
 
 -- the loop: what is left from here gives the whole
 pub record Passing (b : List ℕ) (x : Row) (p₀ k₀ p k : ℕ) : Type 0 where
@@ -61,7 +47,7 @@ module _ (b : List ℕ) (c : Cursor) (plain : Plain c) (p₀ k₀ p k : ℕ) (y 
       told : r ≡ holds (literalAt b p) (prefixOf c)
       told =
           f ∙ ap (holdsBy (getD b (p + 1) 0) (getD b (p + 2) 0)) (sym (getD-take (c .len) (c .values) i 0 h) ∙ ap (at (prefixOf c)) e)
-          ∙ by-literal (getD b (p + 1) 0) (getD b p 0) (getD b (p + 2) 0) (prefixOf c)
+          ∙ holdsBy-literal (getD b (p + 1) 0) (getD b p 0) (getD b (p + 2) 0) (prefixOf c)
 
       pub passing-holds : r ≡ true → Holds p ≡ earlyOf b (prefixOf c) p₀ k₀
       passing-holds t = sym (rw (lt-leb (c .len) i h, sym told ∙ t) at turn) ∙ y .left

@@ -7,6 +7,7 @@ use mathlib.Core.Logic.{_⊎_, inl, inr}
 use mathlib.Core.List.{List, [], _∷_, _++_, append-nil, append-assoc}
 use lib.ListN.{length, getD}
 use lib.Seq.{append-snoc, getD-take}
+use Rattle.literals.specs.Inner.{holdsBy}
 use Rattle.meaning.specs.Rows.{Row, at}
 use Rattle.meaning.specs.Rules.{holds, met}
 use Rattle.meaning.specs.Bytes.{literalAt, literalsAt, ruleAt, rulesAt}
@@ -18,9 +19,9 @@ use Rattle.listing.specs.declared.cursor.Cursor.{Cursor}
 use Rattle.listing.specs.declared.scan.Judged.{Judged}
 use Rattle.listing.specs.declared.scan.Scanned.{Scanned}
 use Rattle.listing.specs.Cursors.{prefixOf}
-use Rattle.listing.specs.Inner.{Plain, Stands, holdsBy, Judges, forbidden, Forbids, Window, Scans, Hit, Ruled, Shows, Asks, Askable, Killer, Asked, Open, Looks}
+use Rattle.listing.specs.Inner.{Plain, Stands, Judges, forbidden, Forbids, Window, Scans, Hit, Ruled, Shows, Asks, Askable, Killer, Asked, Open, Looks}
 use Rattle.listing.proofs.laws.Prefixes.{plain-length}
-use Rattle.listing.proofs.laws.Early.{by-literal}
+use Rattle.literals.proofs.laws.Holding.{holdsBy-literal}
 use Rattle.listing.proofs.laws.Judging.{dead-one}
 use Rattle.listing.proofs.laws.Values.{every, every-open}
 
@@ -48,7 +49,7 @@ module _ (b : List ℕ) (p : ℕ) (c : Cursor) (plain : Plain c) (hint count : �
       told : r ≡ holds (literalAt b (p + 3 * hint)) (prefixOf c)
       told =
           g ∙ ap (holdsBy (getD b (p + 3 * hint + 1) 0) (getD b (p + 3 * hint + 2) 0)) (sym (getD-take (c .len) (c .values) i 0 l) ∙ ap (at (prefixOf c)) f)
-          ∙ by-literal (getD b (p + 3 * hint + 1) 0) (getD b (p + 3 * hint) 0) (getD b (p + 3 * hint + 2) 0) (prefixOf c)
+          ∙ holdsBy-literal (getD b (p + 3 * hint + 1) 0) (getD b (p + 3 * hint) 0) (getD b (p + 3 * hint + 2) 0) (prefixOf c)
 
       by : r ≡ true → (y : Row) → met (ruleAt b p) (prefixOf c ++ y) ≡ true
       by t y =

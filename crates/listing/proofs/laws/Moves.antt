@@ -8,13 +8,14 @@ use lib.Dec.{T, ltb, ltb→lt}
 use lib.ListN.{length, length-append, getD, take, set, replicate, List·getD-eq-default}
 use lib.Seq.{set-append-seam, append-snoc, take-suc, length-take-le}
 use borrow.Author.Tests.{lt-ltb, le-ltb, not-true, not-false}
+use Rattle.meaning.specs.Inner.{Sized}
 use Rattle.meaning.proofs.Tests.{yes-of, is-yes}
-use Rattle.meaning.specs.Rows.{Row, Sizes, alike, begins}
+use Rattle.meaning.specs.Rows.{Row, Sizes, alike, begins, limits}
 use Rattle.meaning.proofs.Alike.{alike-lent}
 use Rattle.listing.specs.declared.cursor.Cursor.{Cursor}
-use Rattle.listing.proofs.laws.Sizes.{limits-known}
-use Rattle.listing.specs.Inner.{Limited, Tested, Good}
-use Rattle.listing.specs.Cursors.{prefixOf, cursorOf, cursorOk, nextValue, oneShorter, moveTo, downIn, alongIn, upIn, downOf, alongOf, upOf, inLimits}
+use Rattle.meaning.proofs.Limits.{limits-known}
+use Rattle.listing.specs.Inner.{Tested, Good}
+use Rattle.listing.specs.Cursors.{prefixOf, cursorOf, cursorOk, nextValue, oneShorter, moveTo, downIn, alongIn, upIn, downOf, alongOf, upOf}
 use Rattle.listing.proofs.laws.Prefixes.{plain-length, good-of, begins-longer, begins-shorter}
 
 -- ---- a prefix that ends in v
@@ -29,7 +30,7 @@ shorter-last [] v = refl
 shorter-last (u ∷ []) v = refl
 shorter-last (u ∷ w ∷ p) v = ap (λ (x : Row). u ∷ x) (shorter-last (w ∷ p) v)
 
-module _ (ns : Sizes) (c : Cursor) (limited : Limited ns) (b : Bool) (t : Tested ns c b) where
+module _ (ns : Sizes) (c : Cursor) (limited : Sized ns) (b : Bool) (t : Tested ns c b) where
   -- a bad cursor does not move
   pub move-bad : not b ≡ true → (p : Row) → c ≡ moveTo ns c p
   unfolding moveTo
@@ -163,7 +164,7 @@ module _ (ns : Sizes) (c : Cursor) (limited : Limited ns) (b : Bool) (t : Tested
 
 -- ---- the moves of edition 1
 
-module _ (n l : ℕ) (c : Cursor) (b : Bool) (e : b ≡ inLimits n l) where
+module _ (n l : ℕ) (c : Cursor) (b : Bool) (e : b ≡ limits n l) where
   pub down-outside : not b ≡ true → c ≡ downOf n l c
   unfolding downOf
   down-outside h = rw (sym e ∙ not-true b h)
@@ -178,7 +179,7 @@ module _ (n l : ℕ) (c : Cursor) (b : Bool) (e : b ≡ inLimits n l) where
 
   module _ (h : not b ≡ false) (m : ℕ) (f : m ≡ n) (r : Cursor) where
     lent : take l (replicate 16 m) ≡ alike n l
-    lent = rw (f, alike-lent n l (limits-known n l b e h .short))
+    lent = rw (f, alike-lent n l (limits-known n l b e (not-false b h) .narrow))
 
     pub down-lent : r ≡ downIn (take l (replicate 16 m)) c → r ≡ downOf n l c
     unfolding downOf

@@ -12,13 +12,13 @@ use Rattle.meaning.specs.Lists.{isNil, lastOr}
 use Rattle.meaning.specs.Rows.{Row, Sizes}
 use Rattle.meaning.specs.Bytes.{rulesIn}
 use Rattle.meaning.specs.Listing.{dead, shown, front, after}
-use Rattle.meaning.specs.Inner.{allLast}
+use Rattle.meaning.specs.Inner.{allLast, Sized}
 use Rattle.meaning.proofs.After.{SomeValues, reached-last}
 use Rattle.meaning.proofs.Paged.{front-none, page-reached, page-begins}
 use Rattle.listing.specs.declared.cursor.Cursor.{Cursor}
 use Rattle.listing.specs.declared.steps.Walk.{Walk}
 use Rattle.listing.specs.declared.paging.Outcome.the-variants.{Listed}
-use Rattle.listing.specs.Inner.{Limited, Plain, finishedOf, pastOf, S, runs, Resumes, Starts}
+use Rattle.listing.specs.Inner.{Plain, finishedOf, pastOf, S, runs, Resumes, Starts}
 use Rattle.listing.specs.Cursors.{prefixOf, cursorOf}
 use Rattle.listing.specs.Pages.{P, listedIn}
 use Rattle.listing.proofs.laws.Prefixes.{prefix-cursor, cursor-len, plain-cursor, begins-length}
@@ -27,7 +27,7 @@ use Rattle.listing.proofs.laws.Filled.{lastD, last-dead, filledOf, page
 
 -- ---- the walk's end is the page's
 
-some-values : (ns : Sizes) → Limited ns → SomeValues ns
+some-values : (ns : Sizes) → Sized ns → SomeValues ns
 some-values ns l = go ns (l .some)
   where
     go : (ns : Sizes) → ((k : ℕ) → k < length ns → 1 ≤ getD ns k 0) → SomeValues ns

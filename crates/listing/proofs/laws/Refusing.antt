@@ -6,7 +6,7 @@ use mathlib.Core.Bool.{Bool, true, false, not}
 use mathlib.Core.List.{List}
 use lib.ListN.{length, take, replicate}
 use borrow.Author.Tests.{eq-eqb, ne-eqb, lt-ltb, le-ltb, not-true, not-false}
-use Rattle.meaning.specs.Rows.{Row, Sizes, alike}
+use Rattle.meaning.specs.Rows.{Row, Sizes, alike, Limited}
 use Rattle.meaning.specs.Bytes.{rulesIn}
 use Rattle.meaning.specs.Listing.{dead}
 use Rattle.meaning.proofs.Alike.{alike-lent, alike-length}
@@ -18,8 +18,8 @@ use Rattle.books.proofs.laws.Holds.{holds-start}
 use Rattle.books.proofs.laws.Accepted.{headed}
 use Rattle.listing.specs.declared.cursor.Cursor.{Cursor}
 use Rattle.listing.specs.declared.paging.Outcome.the-variants.{BadCursor, NoRoom, BadBudget, Faulty as Unread}
-use Rattle.listing.proofs.laws.Sizes.{lent-limited}
-use Rattle.listing.specs.Inner.{Limits, Tested, Standard, Starts, Numbers}
+use Rattle.meaning.proofs.Limits.{lent-sized}
+use Rattle.listing.specs.Inner.{Tested, Standard, Starts, Numbers}
 use Rattle.listing.specs.Cursors.{cursorOk}
 use Rattle.listing.proofs.laws.Prefixes.{good-of}
 use Rattle.listing.proofs.laws.Standing.{stand-all}
@@ -61,12 +61,12 @@ module _ (ns : Sizes) (d : Row → Bool) (c : Cursor) (budget : ℕ) (o : List �
 
 module _ (b : List ℕ) (n l rules m : ℕ) (y : Numbers b n l rules) (e : m ≡ n) where
   lent : take l (replicate 16 m) ≡ alike n l
-  lent = rw (e, alike-lent n l (y .limits .short))
+  lent = rw (e, alike-lent n l (y .limits .narrow))
 
   pub alike-standard : Standard b rules (take l (replicate 16 m))
   alike-standard = record {
-    limited = lent-limited n l m (y .limits) e;
-    settings = rw lent (omega (arith, alike-length n l, y .limits .settings));
+    limited = lent-sized n l (y .limits) m e;
+    settings = rw lent (omega (arith, alike-length n l, y .limits .wide));
     stand = y .stand;
     count = y .count;
     few = y .few;
@@ -88,10 +88,10 @@ module _ (b : List ℕ) (r : Reading) (e : r ≡ readOf b) (c : Cursor) (budget 
         let h : readOf b ≡ Book n l family rules = sym e ∙ q in
         let w = headed b n l family rules h in
         let f = w .well-formed in
-        let k : Limits n l = record { some = f .n-low; few = f .n-high; settings = f .l-low; short = f .l-high } in
+        let k : Limited n l = record { some = f .n-low; few = f .n-high; wide = f .l-low; narrow = f .l-high } in
         record {
           limits = k;
-          stand = stand-all b (alike n l) family 7 rules (rw (alike-lent n l (f .l-high)) at (lent-limited n l n k refl)) (holds-start b n l family rules h);
+          stand = stand-all b (alike n l) family 7 rules (rw (alike-lent n l (f .l-high)) at (lent-sized n l k n refl)) (holds-start b n l family rules h);
           count = w .count-is;
           few = omega (arith, f .few, w .count);
         }

@@ -4,13 +4,14 @@ use native.Mathlib.Nat.{zero-add, suc-add}
 use native.Mathlib.Omega.{arith}
 use mathlib.Core.Path.{_≡_, ap, _∙_}
 use mathlib.Core.List.{List, [], _∷_, _++_}
+use Rattle.meaning.specs.Inner.{Sized}
 use Rattle.meaning.specs.Lists.{All}
 use Rattle.meaning.specs.Rows.{Sizes}
 use Rattle.meaning.specs.Rules.{Rule, Literal, atMost, atLeast, bound, topOf, Fits, AllFit}
 use Rattle.meaning.specs.Bytes.{ruleAt, endAt, rulesAt, placeAt}
 use Rattle.books.specs.Inner.{Holds}
 use Rattle.books.proofs.laws.Holds.{holds-good, holds-inside, holds-next}
-use Rattle.listing.specs.Inner.{Limited, Stands, AllStand}
+use Rattle.listing.specs.Inner.{Stands, AllStand}
 
 -- ---- the rules after i of them
 
@@ -51,16 +52,16 @@ stand-part b at (suc k) (suc i) j s h = stand-part b (endAt b at) k i j (s .1) (
 
 -- ---- in an accepted book they do
 
-small-fit : (ns : Sizes) → Limited ns → (c : Literal) → Fits ns c → bound c < 64
+small-fit : (ns : Sizes) → Sized ns → (c : Literal) → Fits ns c → bound c < 64
 unfolding topOf
 small-fit ns l (atMost i d) f = omega (arith, f .high, l .few i (f .known))
 small-fit ns l (atLeast i d) f = omega (arith, f .high, l .few i (f .known))
 
-all-small : (ns : Sizes) → Limited ns → (r : Rule) → AllFit ns r → All (λ c. bound c < 64) r
+all-small : (ns : Sizes) → Sized ns → (r : Rule) → AllFit ns r → All (λ c. bound c < 64) r
 all-small ns l [] f = tt
 all-small ns l (c ∷ r) f = (small-fit ns l c (f .0), all-small ns l r (f .1))
 
-pub stand-all : (b : List ℕ) (ns : Sizes) (family at k : ℕ) → Limited ns → Holds b ns family at k → AllStand b at k
+pub stand-all : (b : List ℕ) (ns : Sizes) (family at k : ℕ) → Sized ns → Holds b ns family at k → AllStand b at k
 stand-all b ns family at zero l h = tt
 stand-all b ns family at (suc k) l h =
     let g = holds-good b ns family at (suc k) h (omega arith) in

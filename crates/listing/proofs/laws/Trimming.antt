@@ -9,13 +9,14 @@ use lib.Dec.{leb}
 use lib.ListN.{length, getD}
 use lib.Seq.{append-snoc, getD-append-seam}
 use borrow.Author.Tests.{le-leb, leb-true, ne-eqb}
+use Rattle.literals.specs.Inner.{holdsBy}
 use Rattle.meaning.specs.Rows.{Row, at}
 use Rattle.meaning.specs.Rules.{holds, met}
 use Rattle.meaning.specs.Bytes.{literalAt, ruleAt, endAt, rulesAt}
 use Rattle.meaning.specs.Listing.{dead}
 use Rattle.meaning.proofs.Dead.{dead-append}
-use Rattle.listing.specs.Inner.{Stands, AllStand, holdsBy, Ruled, Passes, Trims}
-use Rattle.listing.proofs.laws.Early.{by-literal}
+use Rattle.listing.specs.Inner.{Stands, AllStand, Ruled, Passes, Trims}
+use Rattle.literals.proofs.laws.Holding.{holdsBy-literal}
 use Rattle.listing.proofs.laws.Looking.{met-at, never-dead}
 
 -- ---- one rule
@@ -49,7 +50,7 @@ module _ (b : List ℕ) (p q left : ℕ) (y : Passing b p q left) where
           let says : holdsBy (getD b (q + 1) 0) (getD b (q + 2) 0) u ≡ true =
           rw (ne-eqb (getD b (q + 1) 0) 0 g) (le-leb (getD b (q + 2) 0) u (omega (arith, leb-true (getD b (q + 2) 0) v t))) in
           let held : holds (literalAt b q) (x ++ (u ∷ z)) ≡ true =
-          sym (by-literal (getD b (q + 1) 0) (getD b q 0) (getD b (q + 2) 0) (x ++ (u ∷ z))) ∙ ap (holdsBy (getD b (q + 1) 0) (getD b (q + 2) 0)) here ∙ says in
+          sym (holdsBy-literal (getD b (q + 1) 0) (getD b q 0) (getD b (q + 2) 0) (x ++ (u ∷ z))) ∙ ap (holdsBy (getD b (q + 1) 0) (getD b (q + 2) 0)) here ∙ says in
           let place : q ≡ p + 3 + 3 * (getD b (p + 2) 0 - left) = omega (arith, y .place, y .few) in
           met-at b (p + 3) (getD b (p + 2) 0) (getD b (p + 2) 0 - left) (x ++ (u ∷ z)) (omega (arith, y .few)) (rw place at held)
 

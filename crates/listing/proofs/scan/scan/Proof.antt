@@ -28,8 +28,8 @@ without-requires c κs = c .judge .ensures .small
 widen-requires : tie.Need-widen-requires Inv-loop μ-loop
 widen-requires c κs = omega (arith, c .before .before .before .before .before .pre .1 .few, c .before .before .loop-test .taken)
 
-after-requires : tie.Need-after-requires Inv-loop μ-loop
-after-requires c κs =
+rule-end-requires : tie.Need-rule-end-requires Inv-loop μ-loop
+rule-end-requires c κs =
     let s = c .before .before .before .before .before .before in
     scanning-next _ _ _ _ _ _ (s .pre .1) (s .pre .2) _ _ _ _ (c .before .before .before .before .loop .inv) (c .before .before .before .loop-test .taken) .0 .inside
 
@@ -41,7 +41,7 @@ loop-less c = search needs
 
 loop-again : tie.Need-loop-again Inv-loop μ-loop
 loop-again c =
-    scanning-on _ _ _ _ _ _ _ _ _ (c .before .before .before .before .before .loop .inv) (c .before .before .before .before .loop-test .taken) _ (c .before .before .before .judge .ensures) _ (c .before .before .without .ensures) _ (c .before .widen .ensures) _ (c .after .ensures)
+    scanning-on _ _ _ _ _ _ _ _ _ (c .before .before .before .before .before .loop .inv) (c .before .before .before .before .loop-test .taken) _ (c .before .before .before .judge .ensures) _ (c .before .before .without .ensures) _ (c .before .widen .ensures) _ (c .rule-end .ensures)
 
 sub-t12 : tie.Need-sub-t12 Inv-loop μ-loop
 sub-t12 c = c .before .before .loop .inv .spans .ordered .0
@@ -59,7 +59,7 @@ scan-spec =
     judge-requires
     without-requires
     widen-requires
-    after-requires
+    rule-end-requires
     add-i
     loop-less
     loop-again

@@ -21,8 +21,8 @@ met-from-requires c κs = search (trims-inside, arith)
 returns : tie.Need-returns Inv-loop μ-loop
 returns c = search needs
 
-after-requires : tie.Need-after-requires Inv-loop μ-loop
-after-requires c κs = search (trims-inside, arith)
+rule-end-requires : tie.Need-rule-end-requires Inv-loop μ-loop
+rule-end-requires c κs = search (trims-inside, arith)
 
 sub-left : tie.Need-sub-left Inv-loop μ-loop
 sub-left c = search needs
@@ -31,7 +31,7 @@ loop-less : tie.Need-loop-less Inv-loop μ-loop
 loop-less c = search needs
 
 loop-again : tie.Need-loop-again Inv-loop μ-loop
-loop-again c = trims-on _ _ _ _ _ _ _ (c .before .before .before .before .loop .inv) (c .before .before .before .loop-test .taken) _ (c .before .before .met-from .ensures) (not-false _ (c .before .if1 .left)) _ (c .after .ensures)
+loop-again c = trims-on _ _ _ _ _ _ _ (c .before .before .before .before .loop .inv) (c .before .before .before .loop-test .taken) _ (c .before .before .met-from .ensures) (not-false _ (c .before .if1 .left)) _ (c .rule-end .ensures)
 
 returns-2 : tie.Need-returns-2 Inv-loop μ-loop
 returns-2 c = search needs
@@ -45,7 +45,7 @@ trim-spec =
     loop-holds
     met-from-requires
     returns
-    after-requires
+    rule-end-requires
     sub-left
     loop-less
     loop-again

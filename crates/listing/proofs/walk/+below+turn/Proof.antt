@@ -24,7 +24,7 @@ use Rattle.listing.proofs.walk.turn.Reads as turn
 use Rattle.listing.proofs.walk.turn.Kinds as turn-kinds
 use Rattle.listing.proofs.walk.+below+turn.Lts-turn as turn-lts
 use Rattle.listing.proofs.scan.trim.Reads as trim-reads
-use Rattle.listing.proofs.scan.wide.Reads as wide-reads
+use Rattle.literals.proofs.wide.Reads as wide-reads
 use Rattle.listing.proofs.steps.leaves.Reads as leaves-reads
 use Rattle.listing.proofs.steps.push.Reads as push-reads
 use Rattle.listing.proofs.steps.skip.Reads as skip-reads

@@ -16,7 +16,7 @@ use borrow.Fn.PlainCycle.{Measures, is, falls, and}
 use Rattle.listing.proofs.walk.resume.Reads as resume
 use Rattle.listing.proofs.walk.resume.Kinds as resume-kinds
 use Rattle.listing.proofs.walk.+resume.Lts-resume as resume-lts
-use Rattle.listing.proofs.scan.wide.Reads as wide-reads
+use Rattle.literals.proofs.wide.Reads as wide-reads
 use Rattle.listing.proofs.values.lacks.Reads as lacks-reads
 use Rattle.listing.proofs.walk.below.Reads as below-reads
 use Rattle.listing.proofs.walk.look_if.Reads as look-if-reads

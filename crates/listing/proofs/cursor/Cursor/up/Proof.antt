@@ -1,7 +1,8 @@
 -- `up`: sixteen bytes n, of which the first l are lent, are the sizes of edition 1.
 use native.Mathlib.Omega.{arith}
 use borrow.Author.Needs.{needs}
-use Rattle.listing.proofs.laws.Sizes.{limits-known, lent-length, lent-limited}
+use borrow.Author.Tests.{not-false}
+use Rattle.meaning.proofs.Limits.{limits-known, lent-length, lent-sized}
 use Rattle.listing.proofs.laws.Moves.{up-outside, up-lent}
 use Rattle.listing.proofs.cursor.Cursor.up.Statement.{statement}
 use Rattle.listing.proofs.cursor.Cursor.up.Tie as tie
@@ -13,16 +14,16 @@ returns : tie.Need-returns
 returns c = search (up-outside, arith)
 
 narrow-requires : tie.Need-narrow-requires
-narrow-requires c κs = limits-known _ _ _ (c .before .limits .ensures) (c .if1 .left) .few
+narrow-requires c κs = omega (arith, limits-known _ _ _ (c .before .limits .ensures) (not-false _ (c .if1 .left)) .few)
 
 array-share-prefix-space : tie.Need-array-share-prefix-space
-array-share-prefix-space c = limits-known _ _ _ (c .before .before .limits .ensures) (c .before .if1 .left) .short
+array-share-prefix-space c = limits-known _ _ _ (c .before .before .limits .ensures) (not-false _ (c .before .if1 .left)) .narrow
 
 slice-aggregate-sizes : tie.Need-slice-aggregate-sizes
-slice-aggregate-sizes c = lent-length _ _ _ (limits-known _ _ _ (c .before .before .before .limits .ensures) (c .before .before .if1 .left))
+slice-aggregate-sizes c = lent-length _ _ (limits-known _ _ _ (c .before .before .before .limits .ensures) (not-false _ (c .before .before .if1 .left))) _ (c .before .narrow .ensures)
 
 back-requires : tie.Need-back-requires
-back-requires c κs = lent-limited _ _ _ (limits-known _ _ _ (c .before .before .before .limits .ensures) (c .before .before .if1 .left)) (c .before .narrow .ensures)
+back-requires c κs = lent-sized _ _ (limits-known _ _ _ (c .before .before .before .limits .ensures) (not-false _ (c .before .before .if1 .left))) _ (c .before .narrow .ensures)
 
 returns-2 : tie.Need-returns-2
 returns-2 c = search (up-lent, arith)
