@@ -321,7 +321,7 @@ pub record Sorted (b : List ℕ) (rules : ℕ) (p s e : List ℕ) (at left : ℕ
 
 -- none is left: no step was made; or nothing is below the last prefix, and each of its values is the last of its setting
 unfoldable pub finishedOf : Sizes → Walk → Bool
-finishedOf ns w = eqb (w .steps) 0 || ((eqb (w .last .len) (length ns) || w .dead) && allLast ns (prefixOf (w .last)))
+finishedOf ns w = eqb (w .steps) 0 || ((eqb (w .last .len) (length ns) || not (eqb (w .dead) 0)) && allLast ns (prefixOf (w .last)))
 
 -- k of the sizes, from setting i on
 abbrev pub part : Sizes → ℕ → ℕ → Sizes
@@ -348,8 +348,13 @@ module _ (d : Row → Bool) where
 abbrev pub S : Type 0
 S = Walk × List ℕ
 
+-- a mark in a walk: 1 for yes
+abbrev pub flag : Bool → ℕ
+flag true = 1
+flag false = 0
+
 abbrev pub walkOf : Cursor → Bool → ℕ → ℕ → Walk
-walkOf q d rows steps = record { last = q; dead = d; rows = rows; steps = steps }
+walkOf q d rows steps = record { last = q; dead = flag d; rows = rows; steps = steps }
 
 -- a visit of q, dead or not: one step; a live one of length l is written as a row
 abbrev pub moveOf : ℕ → Bool → Cursor → S → S

@@ -68,7 +68,7 @@ fn finished(sizes: &[u8], w: Walk) -> bool
     if q.len == sizes.len() {
         return all_last(sizes, q);
     }
-    if w.dead {
+    if w.dead != 0 {
         return all_last(sizes, q);
     }
     false

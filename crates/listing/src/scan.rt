@@ -236,11 +236,15 @@ fn met_from(book: &[u8], at: usize, i: usize, v: u8) -> bool
     false
 }
 
-// Of `rules` rules from place `at` on, the run without those in front that every prefix meets whose value at setting i is v or more.
+// Of `rules` rules from place `at` on, the run without those in front that every prefix meets whose value at setting i is v or more;
+// a short run as it is.
 pub fn trim(book: &[u8], at: usize, rules: usize, i: usize, v: u8) -> Run
     requires { ⌜ AllStand (now book) at rules ⌝ }
     ensures { λ r. ⌜ Trims (now (book .entry)) at rules i v (r .at) (r .rules) ⌝ }
 {
+    if rules < 16 {
+        return Run { at, rules };
+    }
     let mut p = at;
     let mut left = rules;
     while 0 < left {

@@ -134,11 +134,11 @@ pub fn start(
     budget: usize,
 ) -> Walk
     requires { ⌜ Resumes (now book) rules (now sizes) (now room) c fit ⌝ }
-    ensures { λ r. ⌜ _≡_ {A = S} (r, now (room .exit)) (runs (dead (rulesIn (now (book .entry)))) (length (now (sizes .entry))) fit budget (pastOf (dead (rulesIn (now (book .entry)))) (now (sizes .entry)) [] (prefixOf c)) (record { last = c; dead = false; rows = 0; steps = 0 }, now (room .entry))) ⌝ }
+    ensures { λ r. ⌜ _≡_ {A = S} (r, now (room .exit)) (runs (dead (rulesIn (now (book .entry)))) (length (now (sizes .entry))) fit budget (pastOf (dead (rulesIn (now (book .entry)))) (now (sizes .entry)) [] (prefixOf c)) (record { last = c; dead = 0; rows = 0; steps = 0 }, now (room .entry))) ⌝ }
 {
     let w = Walk {
         last: c,
-        dead: false,
+        dead: 0,
         rows: 0,
         steps: 0,
     };

@@ -11,12 +11,12 @@ ghost use Rattle.meaning.specs.Bytes.{rulesIn};
 ghost use Rattle.meaning.specs.Listing.{dead};
 ghost use Rattle.books.specs.Inner.{putAt};
 ghost use Rattle.listing.specs.Cursors.{prefixOf};
-ghost use Rattle.listing.specs.Inner.{Plain, pushOf, part, fromOf, S, walkOf, runs, Ready, Allows, skipOf, Skips, leafRows, leafRoom, leafOf};
+ghost use Rattle.listing.specs.Inner.{Plain, pushOf, part, fromOf, S, walkOf, flag, runs, Ready, Allows, skipOf, Skips, leafRows, leafRoom, leafOf};
 
 // What a page has done so far: the last prefix visited and whether it is dead, the rows written, the steps made.
 pub struct Walk {
     pub last: Cursor,
-    pub dead: bool,
+    pub dead: usize,
     pub rows: usize,
     pub steps: usize,
 }
@@ -35,13 +35,23 @@ pub fn push(c: Cursor, v: u8) -> Cursor
     }
 }
 
+// A mark: 1 for yes. A whole number, since a byte beside numbers makes a walk slow to copy.
+fn flag(yes: bool) -> usize
+    ensures { λ r. ⌜ r ≡ flag yes ⌝ }
+{
+    if yes {
+        return 1;
+    }
+    0
+}
+
 // What has been done once the prefix q is visited.
 pub fn seen(q: Cursor, dead: bool, rows: usize, steps: usize) -> Walk
     ensures { λ r. ⌜ r ≡ walkOf q dead rows steps ⌝ }
 {
     Walk {
         last: q,
-        dead,
+        dead: flag(dead),
         rows,
         steps,
     }
@@ -181,7 +191,7 @@ pub fn leaves(
     let l = sizes.len();
     let mut rows = w.rows;
     let mut steps = w.steps;
-    let mut dead = w.dead;
+    let mut dead = false;
     let mut v = from;
     while v < n {
         if fit <= rows {

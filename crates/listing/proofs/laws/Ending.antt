@@ -29,13 +29,13 @@ module _ (ns : Sizes) (w : Walk) where
     unfolding finishedOf
     ends-full k r e = e ∙ rw (ne-eqb (w .steps) 0 h, eq-eqb (w .last .len) (length ns) k)
 
-    pub ends-dead : (w .last .len ≡ length ns → ⊥) → w .dead ≡ true → (r : Bool) → r ≡ allLast ns (prefixOf (w .last)) → r ≡ finishedOf ns w
+    pub ends-dead : (w .last .len ≡ length ns → ⊥) → (w .dead ≡ 0 → ⊥) → (r : Bool) → r ≡ allLast ns (prefixOf (w .last)) → r ≡ finishedOf ns w
     unfolding finishedOf
-    ends-dead k d r e = e ∙ rw (ne-eqb (w .steps) 0 h, ne-eqb (w .last .len) (length ns) k, d)
+    ends-dead k d r e = e ∙ rw (ne-eqb (w .steps) 0 h, ne-eqb (w .last .len) (length ns) k, ne-eqb (w .dead) 0 d)
 
-    pub ends-live : (w .last .len ≡ length ns → ⊥) → w .dead ≡ false → false ≡ finishedOf ns w
+    pub ends-live : (w .last .len ≡ length ns → ⊥) → w .dead ≡ 0 → false ≡ finishedOf ns w
     unfolding finishedOf
-    ends-live k e = rw (ne-eqb (w .steps) 0 h, ne-eqb (w .last .len) (length ns) k, e)
+    ends-live k e = rw (ne-eqb (w .steps) 0 h, ne-eqb (w .last .len) (length ns) k, eq-eqb (w .dead) 0 e)
 
 -- ---- the loop over the values: what is left from here gives the whole
 

@@ -17,7 +17,7 @@ use Rattle.books.proofs.laws.Put.{putAt-length, putAt-nothing, putAt-putAt}
 use Rattle.listing.specs.declared.cursor.Cursor.{Cursor}
 use Rattle.listing.specs.declared.steps.Walk.{Walk}
 use Rattle.listing.specs.Cursors.{prefixOf, cursorOf}
-use Rattle.listing.specs.Inner.{Plain, S, walkOf, moveOf, visitOf, runs}
+use Rattle.listing.specs.Inner.{Plain, S, walkOf, moveOf, visitOf, runs, flag}
 use Rattle.listing.specs.Pages.{flat}
 use Rattle.listing.proofs.laws.Prefixes.{prefix-cursor, cursor-len}
 use Rattle.listing.proofs.laws.Steps.{runs-nil, runs-cons, runs-shut, shut-rows, shut-steps, open-both}
@@ -31,15 +31,15 @@ abbrev lastC : Cursor → List Row → Cursor
 lastC c [] = c
 lastC c (x ∷ xs) = lastC (cursorOf x) xs
 
-abbrev pub lastD : (Row → Bool) → Bool → List Row → Bool
-lastD d b [] = b
-lastD d b (x ∷ xs) = lastD d (d x) xs
+abbrev pub lastD : (Row → Bool) → ℕ → List Row → ℕ
+lastD d n [] = n
+lastD d n (x ∷ xs) = lastD d (flag (d x)) xs
 
 last-cursor : (p : Row) (F : List Row) → lastC (cursorOf p) F ≡ cursorOf (lastOr p F)
 last-cursor p [] = refl
 last-cursor p (x ∷ F) = last-cursor x F
 
-pub last-dead : (d : Row → Bool) (x : Row) (F : List Row) → lastD d (d x) F ≡ d (lastOr x F)
+pub last-dead : (d : Row → Bool) (x : Row) (F : List Row) → lastD d (flag (d x)) F ≡ flag (d (lastOr x F))
 last-dead d x [] = refl
 last-dead d x (y ∷ F) = last-dead d y F
 
@@ -123,7 +123,7 @@ module _ (ns : Sizes) (d : Row → Bool) where
   end-moved : (b : Bool) (x : Row) (F : List Row) (s : S) → shown ns d x ≡ b → (s .0 .rows + length (consIf b x (keep (shown ns d) F))) * length ns ≤ length (s .1)
       → endOf F (moved b x s)
       ≡ (
-        record { last = lastC (cursorOf x) F; dead = lastD d (d x) F; rows = s .0 .rows + length (consIf b x (keep (shown ns d) F)); steps = s .0 .steps + suc (length F) },
+        record { last = lastC (cursorOf x) F; dead = lastD d (flag (d x)) F; rows = s .0 .rows + length (consIf b x (keep (shown ns d) F)); steps = s .0 .steps + suc (length F) },
         putAt (s .1) (s .0 .rows * length ns) (flat (consIf b x (keep (shown ns d) F))),
       )
   end-moved true x F s e h =
@@ -159,15 +159,15 @@ module _ (ns : Sizes) (d : Row → Bool) where
   -- the state at a page's end
   abbrev pub filledOf : Row → List Row → List ℕ → S
   filledOf p F o = (
-    record { last = cursorOf (lastOr p F); dead = lastD d false F; rows = length (keep (shown ns d) F); steps = length F },
+    record { last = cursorOf (lastOr p F); dead = lastD d 0 F; rows = length (keep (shown ns d) F); steps = length F },
     flat (keep (shown ns d) F) ++ drop (length (flat (keep (shown ns d) F))) o,
   )
 
   pub page-filled : (fit budget : ℕ) (L : List Row) (c : Cursor) (o : List ℕ) → Plain c → fit * length ns ≤ length o
-      → runs d (length ns) fit budget L (record { last = c; dead = false; rows = 0; steps = 0 }, o) ≡ filledOf (prefixOf c) (front (shown ns d) fit budget L) o
+      → runs d (length ns) fit budget L (record { last = c; dead = 0; rows = 0; steps = 0 }, o) ≡ filledOf (prefixOf c) (front (shown ns d) fit budget L) o
   page-filled fit budget L c o p h =
       let F : List Row = front (shown ns d) fit budget L in
-      let w : Walk = record { last = c; dead = false; rows = 0; steps = 0 } in
+      let w : Walk = record { last = c; dead = 0; rows = 0; steps = 0 } in
       let fits : (0 + length (keep (shown ns d) F)) * length ns ≤ length o =
       omega (arith, h, mul-le-mul-right (length ns) (front-rows (shown ns d) fit budget L)) in
       let r : 0 + length (keep (shown ns d) F) ≡ length (keep (shown ns d) F) = omega arith in

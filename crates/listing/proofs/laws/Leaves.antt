@@ -44,8 +44,8 @@ module _ (d : Row → Bool) (ns : Sizes) (cur : Cursor) (fit budget : ℕ) (w : 
     pub steps-are : leafOf w cur v u f rows steps .steps ≡ steps
     pub going : Going d ns cur 1 fit budget v w o₀ o (leafOf w cur v u f rows steps) u
 
-  pub leafing-start : Leafing o₀ (w .dead) (w .rows) (w .steps) v
-  leafing-start =
+  pub leafing-start : (f : Bool) → Leafing o₀ f (w .rows) (w .steps) v
+  leafing-start f =
       record { ahead = omega arith; rows-are = rw (eq-eqb v v refl); steps-are = rw (eq-eqb v v refl); going = rw (eq-eqb v v refl) (going-start d ns cur 1 fit budget v w o₀ (λ z. omega arith)) }
 
   module _ (y : Ready ns o₀ cur 1 fit) (full : cur .len + 1 ≡ length ns) (o : List ℕ) (f : Bool) (rows steps u : ℕ) (g : Leafing o f rows steps u) where

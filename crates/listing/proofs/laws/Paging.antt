@@ -3,7 +3,7 @@ use Prim.Native.Nat.{ℕ, suc, _/_, _≤_, _<_}
 use native.Mathlib.Nat.{div-mul-le-self, le-div-iff-mul-le}
 use native.Mathlib.Omega.{arith}
 use mathlib.Core.Path.{_≡_, refl, sym, ap, _∙_}
-use mathlib.Core.Bool.{Bool, true, false, _&&_, _||_}
+use mathlib.Core.Bool.{Bool, true, false, _&&_, _||_, not}
 use mathlib.Core.List.{List, [], _∷_}
 use lib.Dec.{eqb}
 use lib.ListN.{length, getD}
@@ -18,7 +18,7 @@ use Rattle.meaning.proofs.Paged.{front-none, page-reached, page-begins}
 use Rattle.listing.specs.declared.cursor.Cursor.{Cursor}
 use Rattle.listing.specs.declared.steps.Walk.{Walk}
 use Rattle.listing.specs.declared.paging.Outcome.the-variants.{Listed}
-use Rattle.listing.specs.Inner.{Plain, finishedOf, pastOf, S, runs, Resumes, Starts}
+use Rattle.listing.specs.Inner.{Plain, finishedOf, pastOf, S, runs, Resumes, Starts, flag}
 use Rattle.listing.specs.Cursors.{prefixOf, cursorOf}
 use Rattle.listing.specs.Pages.{P, listedIn}
 use Rattle.listing.proofs.laws.Prefixes.{prefix-cursor, cursor-len, plain-cursor, begins-length}
@@ -44,6 +44,10 @@ flip false true false = refl
 flip false false true = refl
 flip false false false = refl
 
+flag-told : (b : Bool) → not (eqb (flag b) 0) ≡ b
+flag-told true = refl
+flag-told false = refl
+
 module _ (ns : Sizes) (d : Row → Bool) (p : Row) (fit budget : ℕ) (o : List ℕ) where
   abbrev F : List Row
   F = front (shown ns d) fit budget (after ns d p)
@@ -58,10 +62,11 @@ module _ (ns : Sizes) (d : Row → Bool) (p : Row) (fit budget : ℕ) (o : List 
       go (x ∷ f) e =
           let q : Row = lastOr x f in
           let v = page-reached ns d fit budget p x f e in
-          ap (λ (u : Bool). u || ((eqb (cursorOf q .len) (length ns) || lastD d (d x) f) && allLast ns (prefixOf (cursorOf q)))) (ne-eqb (suc (length f)) 0 (λ h. omega arith))
-          ∙ ap (λ (u : Row). (eqb (cursorOf q .len) (length ns) || lastD d (d x) f) && allLast ns u) (prefix-cursor q)
-          ∙ ap (λ (k : ℕ). (eqb k (length ns) || lastD d (d x) f) && allLast ns q) (cursor-len q)
-          ∙ ap (λ (u : Bool). (eqb (length q) (length ns) || u) && allLast ns q) (last-dead d x f)
+          ap (λ (u : Bool). u || ((eqb (cursorOf q .len) (length ns) || not (eqb (lastD d (flag (d x)) f) 0)) && allLast ns (prefixOf (cursorOf q)))) (ne-eqb (suc (length f)) 0 (λ h. omega arith))
+          ∙ ap (λ (u : Row). (eqb (cursorOf q .len) (length ns) || not (eqb (lastD d (flag (d x)) f) 0)) && allLast ns u) (prefix-cursor q)
+          ∙ ap (λ (k : ℕ). (eqb k (length ns) || not (eqb (lastD d (flag (d x)) f) 0)) && allLast ns q) (cursor-len q)
+          ∙ ap (λ (m : ℕ). (eqb (length q) (length ns) || not (eqb m 0)) && allLast ns q) (last-dead d x f)
+          ∙ ap (λ (u : Bool). (eqb (length q) (length ns) || u) && allLast ns q) (flag-told (d q))
           ∙ flip (eqb (length q) (length ns)) (d q) (allLast ns q)
           ∙ sym (reached-last ns d q some v)
 
@@ -86,13 +91,13 @@ module _ (b : List ℕ) (rules : ℕ) (ns : Sizes) (c : Cursor) (o : List ℕ) (
   some-fit = le-div-iff-mul-le {k = length ns} {x = 1} {y = length o} (y .standard .settings) .1 (omega (arith, y .row))
 
   module _ (w : Walk) (o′ : List ℕ)
-      (h : _≡_ {A = S} (w, o′) (runs d (length ns) fit budget (pastOf d ns [] (prefixOf c)) (record { last = c; dead = false; rows = 0; steps = 0 }, o))) where
+      (h : _≡_ {A = S} (w, o′) (runs d (length ns) fit budget (pastOf d ns [] (prefixOf c)) (record { last = c; dead = 0; rows = 0; steps = 0 }, o))) where
     abbrev seen : List Row
     seen = F ns d (prefixOf c) fit budget o
 
     walked : _≡_ {A = S} (w, o′) (filledOf ns d (prefixOf c) seen o)
     walked =
-        h ∙ ap (λ (L : List Row). runs d (length ns) fit budget L (record { last = c; dead = false; rows = 0; steps = 0 }, o)) (past-after d ns (prefixOf c) (y .good .fits))
+        h ∙ ap (λ (L : List Row). runs d (length ns) fit budget L (record { last = c; dead = 0; rows = 0; steps = 0 }, o)) (past-after d ns (prefixOf c) (y .good .fits))
         ∙ page-filled ns d fit budget (after ns d (prefixOf c)) c o (y .good .plain) (div-mul-le-self (length o) (length ns))
 
     pub listed-last : Plain (w .last) × (w .last .len ≤ length ns)

@@ -85,7 +85,7 @@ module _ (b : List ℕ) (rules : ℕ) (ns : Sizes) (room : List ℕ) (c : Cursor
   d = dead (rulesIn b)
 
   abbrev w₀ : Walk
-  w₀ = record { last = c; dead = false; rows = 0; steps = 0 }
+  w₀ = record { last = c; dead = 0; rows = 0; steps = 0 }
 
   abbrev pub startOf : S
   startOf = runs d (length ns) fit budget (pastOf d ns [] (prefixOf c)) (w₀, room)

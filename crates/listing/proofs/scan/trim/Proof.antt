@@ -12,14 +12,17 @@ Inv-loop book at rules i v p₀ left₀ p left = Trims book at rules i v p left
 abbrev μ-loop : tie.MeasureT-loop
 μ-loop book at rules i v p₀ left₀ p left = left
 
+returns : tie.Need-returns Inv-loop μ-loop
+returns c = search (trims-none, arith)
+
 loop-holds : tie.Need-loop-holds Inv-loop μ-loop
 loop-holds c = search (trims-none, arith)
 
 met-from-requires : tie.Need-met-from-requires Inv-loop μ-loop
 met-from-requires c κs = search (trims-inside, arith)
 
-returns : tie.Need-returns Inv-loop μ-loop
-returns c = search needs
+returns-2 : tie.Need-returns-2 Inv-loop μ-loop
+returns-2 c = search needs
 
 rule-end-requires : tie.Need-rule-end-requires Inv-loop μ-loop
 rule-end-requires c κs = search (trims-inside, arith)
@@ -31,10 +34,10 @@ loop-less : tie.Need-loop-less Inv-loop μ-loop
 loop-less c = search needs
 
 loop-again : tie.Need-loop-again Inv-loop μ-loop
-loop-again c = trims-on _ _ _ _ _ _ _ (c .before .before .before .before .loop .inv) (c .before .before .before .loop-test .taken) _ (c .before .before .met-from .ensures) (not-false _ (c .before .if1 .left)) _ (c .rule-end .ensures)
+loop-again c = trims-on _ _ _ _ _ _ _ (c .before .before .before .before .loop .inv) (c .before .before .before .loop-test .taken) _ (c .before .before .met-from .ensures) (not-false _ (c .before .if2 .left)) _ (c .rule-end .ensures)
 
-returns-2 : tie.Need-returns-2 Inv-loop μ-loop
-returns-2 c = search needs
+returns-3 : tie.Need-returns-3 Inv-loop μ-loop
+returns-3 c = search needs
 
 pub trim-spec : {M : Type 1} → statement M
 trim-spec =
@@ -42,11 +45,12 @@ trim-spec =
     (tie.spec
     Inv-loop
     μ-loop
+    returns
     loop-holds
     met-from-requires
-    returns
+    returns-2
     rule-end-requires
     sub-left
     loop-less
     loop-again
-    returns-2)
+    returns-3)

@@ -20,7 +20,7 @@ shared-slice-read-n : tie.Need-shared-slice-read-n Inv-loop μ-loop
 shared-slice-read-n c = omega (arith, c .before .before .before .before .pre .0 .deep)
 
 loop-holds : tie.Need-loop-holds Inv-loop μ-loop
-loop-holds c = let a = c .before .before .before .before .args in leafing-start (Listing.dead (rulesIn (a .book .now))) (a .sizes .now) (a .cur) (a .fit) (a .budget) (a .w) (a .from) (a .room .now)
+loop-holds c = let a = c .before .before .before .before .args in leafing-start (Listing.dead (rulesIn (a .book .now))) (a .sizes .now) (a .cur) (a .fit) (a .budget) (a .w) (a .from) (a .room .now) _
 
 leafed-requires : tie.Need-leafed-requires Inv-loop μ-loop
 leafed-requires c κs =
