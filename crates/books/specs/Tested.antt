@@ -1,4 +1,4 @@
--- Testing a combination: book faults, its length, its values, then the first rule not met; and what the answer says.
+-- Testing a combination: book faults, its length, its values, then the first rule not met.
 use Prim.Native.Nat.{ℕ, suc}
 use mathlib.Core.Bool.{cond}
 use mathlib.Core.List.{List, [], _∷_}

@@ -1,5 +1,4 @@
--- Promise: pages of an accepted book from the beginning, each with the cursor that the last one gave, end; together they show every
--- permitted combination once, ascending, and their steps add up to the visited prefixes. Known by the contract of `page` alone.
+-- Promise: the words of demand 3: pages of a book one after the other, what they have shown together, and when that is the whole.
 use Prim.Native.Nat.{ℕ, _+_, _*_, _≤_}
 use mathlib.Core.Path.{_≡_}
 use mathlib.Core.Bool.{Bool, true, false, cond}

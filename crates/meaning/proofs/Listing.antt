@@ -1,4 +1,4 @@
--- Listing: dead and live prefixes, the visited ones in order, a page, and a run of pages.
+-- Listing: a run of pages, and what its pages come to together.
 use Prim.Native.Nat.{ℕ, _+_}
 use mathlib.Core.Bool.{Bool, cond}
 use mathlib.Core.List.{List, [], _∷_, _++_}

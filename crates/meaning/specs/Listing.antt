@@ -1,4 +1,4 @@
--- Listing: dead and live prefixes, the visited ones in order, a page, and a run of pages.
+-- Listing: dead and live prefixes, the visited ones in order, and a page.
 use Prim.Native.Nat.{ℕ, zero, suc}
 use mathlib.Core.Bool.{Bool, true, false, cond, not, _&&_, _||_}
 use mathlib.Core.List.{List, [], _∷_, _++_, map}

@@ -1,4 +1,4 @@
--- A rule of a book by its number, as the part of the lent bytes that holds its record.
+-- Laws of a rule's part: where its record stands, and that it is the encoding of the rule.
 use Prim.Native.Nat.{ℕ, zero, suc, _+_, _-_, _≤_, _<_}
 use native.Mathlib.Omega.{arith}
 use native.Mathlib.Nat.{sub-zero, add-sub-cancel-left}

@@ -1,4 +1,4 @@
--- Testing a combination: book faults, its length, its values, then the first rule not met; and what the answer says.
+-- Laws of testing: what the answer to a test says of the combination and the rules.
 use Prim.Native.Nat.{ℕ, _≤_, _<_}
 use native.Mathlib.Omega.{arith}
 use mathlib.Core.Path.{_≡_, _∙_}
