@@ -3,11 +3,9 @@
 use crate::call::Call;
 use crate::smaller::smaller;
 
-/// The search ends when the calls it tried were lent so many bytes, which takes seconds: only the
+/// The search ends when the calls it tried cost so much together, which takes seconds: only the
 /// largest calls get there before no step is left.
 const MOST: u64 = 1 << 28;
-/// What a call counts besides the bytes it is lent.
-const SOME: u64 = 500;
 
 /// A smaller call that still differs, and that no step makes smaller yet.
 pub fn smallest(call: Call, differs: impl Fn(&Call) -> bool) -> Call {
@@ -27,8 +25,19 @@ pub fn smallest(call: Call, differs: impl Fn(&Call) -> bool) -> Call {
     }
 }
 
+/// About the time that a call takes: some for itself, the bytes it is lent, and for a median's
+/// closure the triples of rows.
 fn cost(call: &Call) -> u64 {
+    let triples = match call {
+        Call::Make {
+            l: l @ 1..=16,
+            family: 3,
+            table,
+            ..
+        } => (table.len() as u64 / l).min(512).pow(3) / 8,
+        _ => 0,
+    };
     let mut call = call.clone();
     let bytes = call.bytes().into_iter().map(|bytes| bytes.len() as u64);
-    SOME + bytes.sum::<u64>() + call.room()
+    500 + bytes.sum::<u64>() + call.room() + triples
 }
