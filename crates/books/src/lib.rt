@@ -1,4 +1,6 @@
 // The book in bytes: reading it, a rule as a part of it, testing a combination against it, and writing its records.
+#![tactic(auto)]
+
 mod fields;
 mod literal_fields;
 mod part;
@@ -13,7 +15,7 @@ pub use records::{put_end, put_head, put_rule};
 pub use tester::test;
 
 // What is wrong with a book, and at which place: refusals 9 to 15.
-#[derive(Drop)]
+#[derive(Clone, Copy)]
 pub enum Fault {
     Cut(usize),
     Mark(usize),
@@ -25,14 +27,14 @@ pub enum Fault {
 }
 
 // What each step of the reader gives: a number, or the first fault.
-#[derive(Drop)]
+#[derive(Clone, Copy)]
 pub enum Got {
     At(usize),
     No(Fault),
 }
 
 // What reading a book gives: its head, or the first fault.
-#[derive(Drop)]
+#[derive(Clone, Copy)]
 pub enum Reading {
     Book {
         n: usize,
@@ -45,7 +47,7 @@ pub enum Reading {
 
 // What testing a combination gives: permitted, the number of the first rule not met, or a refusal.
 // Length is 16, the combination not l long; Value is 17, with the place of its first value that is n or more.
-#[derive(Drop)]
+#[derive(Clone, Copy)]
 pub enum Tested {
     Permitted,
     NotMet(usize),

@@ -10,7 +10,7 @@ use literals::rule_end;
 
 // A part of a lent book: where it begins, and how many bytes it has. Laid out as C has it.
 #[repr(C)]
-#[derive(Drop)]
+#[derive(Clone, Copy)]
 pub struct RulePart {
     pub place: usize,
     pub length: usize,

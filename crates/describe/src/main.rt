@@ -1,5 +1,7 @@
 // Prints the book of a table. Standard input, of which at most 65,536 bytes are read, is n, l, family and then the table; missing first bytes
 // count as 0. The book is made in 65,536 lent bytes. Each line is put together in a buffer and written at once.
+#![tactic(auto)]
+
 ghost use Rattle.std.specs.Prelude.{◌<◌};
 
 use libc::{STDIN_FILENO, STDOUT_FILENO};

@@ -9,7 +9,7 @@ use literals::{limits, narrow};
 
 // A prefix: its length, and sixteen values of which those past the length are 0. Laid out as C has it.
 #[repr(C)]
-#[derive(Drop)]
+#[derive(Clone, Copy)]
 pub struct Cursor {
     pub len: usize,
     pub values: [u8; 16],

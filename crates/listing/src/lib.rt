@@ -1,4 +1,6 @@
 // Listing the permitted combinations of a book by pages: the cursor and its moves, and the page.
+#![tactic(auto)]
+
 mod cursor;
 mod groups;
 mod paging;

@@ -15,7 +15,7 @@ use books::{Fault, Reading};
 use literals::{narrow, wide};
 
 // How a page ends: with so many rows and steps, and whether it is finished; or refused.
-#[derive(Drop)]
+#[derive(Clone, Copy)]
 pub enum Outcome {
     Listed {
         rows: usize,
@@ -29,7 +29,7 @@ pub enum Outcome {
 }
 
 // A page's answer: the last prefix visited, or the given cursor, beside its outcome.
-#[derive(Drop)]
+#[derive(Clone, Copy)]
 pub struct Paged {
     pub cursor: Cursor,
     pub outcome: Outcome,

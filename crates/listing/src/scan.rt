@@ -11,7 +11,7 @@ use crate::values::without;
 use literals::{holds, rule_end, wide};
 
 // What the literals on the settings of a prefix say: the one at a place holds; or none does, and so many are left from a place on.
-#[derive(Drop)]
+#[derive(Clone, Copy)]
 pub enum Passed {
     Holds(usize),
     Left(usize, usize),
@@ -19,7 +19,7 @@ pub enum Passed {
 
 // What a rule asks of the value after a prefix: values from low up to below high are forbidden; if it lasts, it can still make a
 // prefix below dead. The hint is the number of a literal that holds, from 1, or 0; no answer rests on it.
-#[derive(Drop)]
+#[derive(Clone, Copy)]
 pub struct Judged {
     pub lasts: bool,
     pub low: usize,
@@ -28,7 +28,7 @@ pub struct Judged {
 }
 
 // Some of the rules in a row: from number `first`, whose mark is at place `at`, up to below number `end`.
-#[derive(Drop)]
+#[derive(Clone, Copy)]
 pub struct Span {
     pub at: usize,
     pub first: usize,
@@ -37,7 +37,7 @@ pub struct Span {
 
 // What a scan gives: the values with which the prefix is not dead; and the rules that matter below, their number and the place
 // of the first.
-#[derive(Drop)]
+#[derive(Clone, Copy)]
 pub struct Scanned {
     pub allowed: u64,
     pub at: usize,
@@ -205,7 +205,7 @@ pub fn scan(book: &[u8], from: usize, rules: usize, cur: Cursor, set: u64) -> Sc
 }
 
 // Some of the rules in a row: so many, from a place on.
-#[derive(Drop)]
+#[derive(Clone, Copy)]
 pub struct Run {
     pub at: usize,
     pub rules: usize,

@@ -8,14 +8,14 @@ use crate::groups::{entry, place};
 use literals::wide;
 
 // The bounds of the groups: group g from entry `starts[g]` up to below `starts[g + 1]`, its front up to below `ends[g]`.
-#[derive(Drop)]
+#[derive(Clone, Copy)]
 pub struct Bounds {
     pub starts: [u16; 17],
     pub ends: [u16; 16],
 }
 
 // What sorting comes to: where the fronts end, and the rules that are left, so many from a place on.
-#[derive(Drop)]
+#[derive(Clone, Copy)]
 pub struct Groups {
     pub ends: [u16; 16],
     pub at: usize,

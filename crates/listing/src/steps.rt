@@ -12,7 +12,7 @@ use crate::values::lacks;
 use literals::wide;
 
 // What a page has done so far: the last prefix visited and whether it is dead, the rows written, the steps made.
-#[derive(Drop)]
+#[derive(Clone, Copy)]
 pub struct Walk {
     pub last: Cursor,
     pub dead: usize,
@@ -65,7 +65,7 @@ pub fn visit(w: Walk, q: Cursor, dead: bool, budget: usize) -> Walk
 }
 
 // A walk, and the value of the next setting at which it goes on.
-#[derive(Drop)]
+#[derive(Clone, Copy)]
 pub struct Skipped {
     pub walk: Walk,
     pub v: u8,

@@ -76,7 +76,7 @@ fn narrow_if(
 }
 
 // A walk, the value of the next setting at which it goes on, and what is known of the values from there on.
-#[derive(Drop)]
+#[derive(Clone, Copy)]
 pub struct Turned {
     pub walk: Walk,
     pub v: u8,

@@ -2,6 +2,8 @@
 // scarce, and where a rule's record ends. Also a number as a byte and back, and the limits.
 //
 // Three bytes a literal: setting, sign (0 at most, 1 at least), bound.
+#![tactic(auto)]
+
 mod holding;
 mod numbers;
 mod records;

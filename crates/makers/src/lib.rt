@@ -1,4 +1,6 @@
 // From tested rows to a book: the table is checked, its rules are made in a family, and the book is written.
+#![tactic(auto)]
+
 mod earlier;
 mod making;
 mod rows;
@@ -15,7 +17,7 @@ use literals::narrow;
 use tables::{Checked, Closure, Flaw, check, open_rows};
 
 // What making a book gives: its length and number of rules, or the first of refusals 1 to 8.
-#[derive(Drop)]
+#[derive(Clone, Copy)]
 pub enum Made {
     Book { length: usize, rules: usize },
     // refusals 1 to 5

@@ -7,7 +7,7 @@ use books::put_rule;
 use reducing::Hand;
 
 // How far a book has come.
-#[derive(Drop)]
+#[derive(Clone, Copy)]
 pub struct Tally {
     pub length: usize,
     pub rules: usize,

@@ -32,7 +32,7 @@ module _ (ns : Sizes) (d : Row → Bool) (n v : ℕ) (c : Row) (fits : v < n) wh
   limbs_split : each (limb ns d) 0 n ≡ each (limb ns d) 0 v ++ (limb ns d v ++ each (limb ns d) (suc v) (n - suc v))
   limbs_split =
       let e : n ≡ v + suc (n - suc v) = omega arith in
-      ap (λ k. each (limb ns d) 0 k) e ∙ each_split (limb ns d) 0 v (suc (n - suc v)) ∙ rw zero-add
+      ap (λ k. each (limb ns d) 0 k) e ∙ each_split (limb ns d) 0 v (suc (n - suc v)) ∙ simp zero-add
 
   -- the test on v's own branch is the test on what follows v
   own_limb : keep (before (v ∷ c)) (limb ns d v) ≡ map (λ s. v ∷ s) (keep (before c) (tree ns (under d v)))

@@ -67,6 +67,7 @@ module _ {A : Type 0} where
   mem_each x f s k v a b m = rw (each_at f s k v a b) (Memᴰ.append_right (each f s (v - s)) (Memᴰ.append_left (each f (suc v) (s + k - suc v)) m))
 
   pub mem_keep : (p : A → Bool) (x : A) (xs : List A) → p x ≡ true → Memᴰ x xs → Memᴰ x (keep p xs)
+  mem_keep p x [] t m = elim m [ ]
   mem_keep p x (y ∷ xs) t (Memᴰ.head e) = let q : p y ≡ true = cc in rw q (Memᴰ.head e)
   mem_keep p x (y ∷ xs) t (Memᴰ.tail m) = go (p y) (mem_keep p x xs t m)
     where

@@ -1,4 +1,6 @@
 // Reducing: a rule in hand, the count and the bytes of its literals by value as the book has them, and its reduction into a family.
+#![tactic(auto)]
+
 pub mod counts;
 pub mod sides;
 
@@ -12,7 +14,7 @@ use crate::counts::trim;
 use crate::sides::horn;
 
 // Three bytes a literal: setting, sign (0 at most, 1 at least), bound. At most 32 of them.
-#[derive(Drop)]
+#[derive(Clone, Copy)]
 pub struct Hand {
     pub count: usize,
     pub bytes: [u8; 96],

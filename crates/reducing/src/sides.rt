@@ -14,7 +14,7 @@ use crate::{Hand, empty, push};
 use literals::{holds_at, met, scarce, scarces};
 
 // What rows combine to, setting by setting: nothing where there is none of them.
-#[derive(Drop)]
+#[derive(Clone, Copy)]
 pub struct Joined {
     pub any: bool,
     pub values: [u8; 16],

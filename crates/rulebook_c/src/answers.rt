@@ -7,7 +7,7 @@ use rulebook::{Checked, Cursor, Fault, Flaw, Made, Outcome, Paged, Reading, Test
 
 // 0 for success, else the refusal; and four values, zeros behind those that are given.
 #[repr(C)]
-#[derive(Drop)]
+#[derive(Clone, Copy)]
 pub struct Answer {
     pub number: usize,
     pub gives: [usize; 4],
@@ -15,7 +15,7 @@ pub struct Answer {
 
 // A page's answer, and where the next page goes on.
 #[repr(C)]
-#[derive(Drop)]
+#[derive(Clone, Copy)]
 pub struct PageAnswer {
     pub answer: Answer,
     pub cursor: Cursor,

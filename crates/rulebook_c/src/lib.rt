@@ -1,5 +1,7 @@
 // The library for C and Rust: the calls of include/rulebook.h. A slice arrives as a pointer and a length, and a usize is a
 // uint64_t there: the archive is for machines where both have 64 bits.
+#![tactic(auto)]
+
 mod answers;
 
 ghost use Rattle.std.specs.Prelude.{◌≡◌, List, ℕ};

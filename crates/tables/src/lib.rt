@@ -1,6 +1,8 @@
 // Tables: the check of a table, the search for a row of it, and the search for rows that show it not closed.
 //
 // A table is a run of bytes, l to a row. Rows, settings and places are numbered from 0.
+#![tactic(auto)]
+
 pub mod closures;
 pub mod combine;
 pub mod flaws;
@@ -11,7 +13,7 @@ pub use closures::open_rows;
 pub use flaws::check;
 
 // What is wrong with a table: refusals 1 to 5 of document 01.
-#[derive(Drop)]
+#[derive(Clone, Copy)]
 pub enum Flaw {
     Limits,
     Length,
@@ -24,14 +26,14 @@ pub enum Flaw {
 }
 
 // What checking a table gives: the number of rows of a sound one, or the first flaw.
-#[derive(Drop)]
+#[derive(Clone, Copy)]
 pub enum Checked {
     Sound(usize),
     Flawed(Flaw),
 }
 
 // What the search for closure gives: the table is closed, or the first rows, ascending, whose result is no row.
-#[derive(Drop)]
+#[derive(Clone, Copy)]
 pub enum Closure {
     Closed,
     Pair(usize, usize),

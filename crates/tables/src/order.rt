@@ -3,7 +3,7 @@ ghost use Rattle.std.specs.Prelude.{◌≡◌, length};
 ghost use Rattle.tables.specs.Inner.{compared_of};
 
 // How one row stands to another.
-#[derive(Drop)]
+#[derive(Clone, Copy)]
 pub enum Compared {
     Below,
     Same,

@@ -1,0 +1,34 @@
+-- `scan`: the loop judges one rule after another; its invariant is `Scanning` of specs/Windows.
+use native.Mathlib.Omega.{arith}
+use Rattle.listing.proofs.laws.Windows.{scanning_start, scanning_on, scanning_next, scanning_end}
+use Rattle.listing.proofs.scan.scan.Goals as goal
+
+pub loop-i-init : goal.loop-i-init
+loop-i-init c = scanning_start _ _ _ _ _
+
+pub judge-j-requires : goal.judge-j-requires
+judge-j-requires c =
+    let s = c in
+    let n = scanning_next _ _ _ _ _ _ s.requires.1 s.requires.2 _ _ _ _ c.loop-i.invariant c.loop-i-test.true in
+    (s.requires.0, n.0, n.1)
+
+pub without-allowed-requires : goal.without-allowed-requires
+without-allowed-requires c = c.judge-j.ensures.small
+
+pub widen-span-requires : goal.widen-span-requires
+widen-span-requires c = omega (arith, c.requires.1.few, c.loop-i-test.true)
+
+pub rule_end-at-requires : goal.rule_end-at-requires
+rule_end-at-requires c =
+    let s = c in
+    (scanning_next _ _ _ _ _ _ s.requires.1 s.requires.2 _ _ _ _ c.loop-i.invariant c.loop-i-test.true).0.inside
+
+pub loop-i-preserved : goal.loop-i-preserved
+loop-i-preserved c =
+    scanning_on _ _ _ _ _ _ _ _ _ c.loop-i.invariant c.loop-i-test.true _ c.judge-j.ensures _ c.without-allowed.ensures _ c.widen-span.ensures _ c.rule_end-at.ensures
+
+pub overflow_sub-result : goal.overflow_sub-result
+overflow_sub-result c = c.loop-i.invariant.spans.ordered.0
+
+pub returns : goal.returns
+returns c = scanning_end _ _ _ _ _ _ c.requires.1 _ _ _ _ c.loop-i.invariant c.loop-i-test.false

@@ -1,0 +1,6 @@
+-- `makers::making::rules` meets its contract: no rows give the one rule without literals (`rows_none`).
+use Rattle.makers.proofs.laws.AllRows.{rows_none}
+use Rattle.makers.proofs.making.rules.Goals as goal
+
+pub returns-then-rows-eq0 : goal.returns-then-rows-eq0
+returns-then-rows-eq0 c = search rows_none

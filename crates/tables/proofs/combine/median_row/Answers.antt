@@ -1,0 +1,13 @@
+-- The first k values are in the array (Filled). Each way through the loop is a lemma of Combining.
+use native.Mathlib.Omega.{arith}
+use Rattle.tables.proofs.laws.Combining.{median_start, median_on, filled_end}
+use Rattle.tables.proofs.combine.median_row.Goals as goal
+
+pub loop-k-init : goal.loop-k-init
+loop-k-init c = search (median_start, arith)
+
+pub loop-k-preserved : goal.loop-k-preserved
+loop-k-preserved c = search (median_on, arith)
+
+pub returns : goal.returns
+returns c = search filled_end
