@@ -81,10 +81,10 @@ module _ (ns : Sizes) (c : Cursor) where
   unfolding cursor_ok
   tested_long h = record { is = rw (lt-leb c.len (length ns) h); sixteen = λ e. absurd (false≢true e) }
 
-  pub tested_unfit : c.len ≤ length ns → (b : Bool) → b ≡ fits ns c → not b ≡ true → Tested ns c false
+  pub tested_unfit : c.len ≤ length ns → (b : Bool) → b ≡ fits ns c → b ≡ false → Tested ns c false
   unfolding cursor_ok
-  tested_unfit h b f n = record { is = rw (le-leb c.len (length ns) h, sym f ∙ not-true b n); sixteen = λ e. absurd (false≢true e) }
+  tested_unfit h b f n = record { is = rw (le-leb c.len (length ns) h, sym f ∙ n); sixteen = λ e. absurd (false≢true e) }
 
-  pub tested_clean : c.len ≤ length ns → (b : Bool) → b ≡ fits ns c → not b ≡ false → (r : Bool) → Cleaned c r → Tested ns c r
+  pub tested_clean : c.len ≤ length ns → (b : Bool) → b ≡ fits ns c → b ≡ true → (r : Bool) → Cleaned c r → Tested ns c r
   unfolding cursor_ok
-  tested_clean h b f n r z = record { is = z.is ∙ sym (rw (le-leb c.len (length ns) h, sym f ∙ not-false b n)); sixteen = λ e. z.sixteen }
+  tested_clean h b f n r z = record { is = z.is ∙ sym (rw (le-leb c.len (length ns) h, sym f ∙ n)); sixteen = λ e. z.sixteen }

@@ -32,16 +32,16 @@ shorter_last (u ∷ w ∷ p) v = ap (λ (x : Row). u ∷ x) (shorter_last (w ∷
 
 module _ (ns : Sizes) (c : Cursor) (limited : Sized ns) (b : Bool) (t : Tested ns c b) where
   -- a bad cursor does not move
-  pub move_bad : not b ≡ true → (p : Row) → c ≡ move_to ns c p
+  pub move_bad : b ≡ false → (p : Row) → c ≡ move_to ns c p
   unfolding move_to
-  move_bad n p = rw (sym t.is ∙ not-true b n)
+  move_bad n p = rw (sym t.is ∙ n)
 
-  module _ (n : not b ≡ false) where
+  module _ (n : b ≡ true) where
     ok : cursor_ok ns c ≡ true
-    ok = sym t.is ∙ not-false b n
+    ok = sym t.is ∙ n
 
     sixteen : length c.values ≡ 16
-    sixteen = t.sixteen (not-false b n)
+    sixteen = t.sixteen n
 
     good : Good ns c
     good = good_of ns c limited.short sixteen ok
@@ -165,30 +165,30 @@ module _ (ns : Sizes) (c : Cursor) (limited : Sized ns) (b : Bool) (t : Tested n
 -- ---- the moves of edition 1
 
 module _ (n l : ℕ) (c : Cursor) (b : Bool) (e : b ≡ limits n l) where
-  pub down_outside : not b ≡ true → c ≡ down_of n l c
+  pub down_outside : b ≡ false → c ≡ down_of n l c
   unfolding down_of
-  down_outside h = rw (sym e ∙ not-true b h)
+  down_outside h = rw (sym e ∙ h)
 
-  pub along_outside : not b ≡ true → c ≡ along_of n l c
+  pub along_outside : b ≡ false → c ≡ along_of n l c
   unfolding along_of
-  along_outside h = rw (sym e ∙ not-true b h)
+  along_outside h = rw (sym e ∙ h)
 
-  pub up_outside : not b ≡ true → c ≡ up_of n l c
+  pub up_outside : b ≡ false → c ≡ up_of n l c
   unfolding up_of
-  up_outside h = rw (sym e ∙ not-true b h)
+  up_outside h = rw (sym e ∙ h)
 
-  module _ (h : not b ≡ false) (m : ℕ) (f : m ≡ n) (r : Cursor) where
+  module _ (h : b ≡ true) (m : ℕ) (f : m ≡ n) (r : Cursor) where
     lent : take l (replicate 16 m) ≡ alike n l
-    lent = rw (f, alike_lent n l (limits_known n l b e (not-false b h)).narrow)
+    lent = rw (f, alike_lent n l (limits_known n l b e h).narrow)
 
     pub down_lent : r ≡ down_in (take l (replicate 16 m)) c → r ≡ down_of n l c
     unfolding down_of
-    down_lent g = g ∙ ap (λ (ns : Sizes). down_in ns c) lent ∙ sym (rw (sym e ∙ not-false b h))
+    down_lent g = g ∙ ap (λ (ns : Sizes). down_in ns c) lent ∙ sym (rw (sym e ∙ h))
 
     pub along_lent : r ≡ along_in (take l (replicate 16 m)) c → r ≡ along_of n l c
     unfolding along_of
-    along_lent g = g ∙ ap (λ (ns : Sizes). along_in ns c) lent ∙ sym (rw (sym e ∙ not-false b h))
+    along_lent g = g ∙ ap (λ (ns : Sizes). along_in ns c) lent ∙ sym (rw (sym e ∙ h))
 
     pub up_lent : r ≡ up_in (take l (replicate 16 m)) c → r ≡ up_of n l c
     unfolding up_of
-    up_lent g = g ∙ ap (λ (ns : Sizes). up_in ns c) lent ∙ sym (rw (sym e ∙ not-false b h))
+    up_lent g = g ∙ ap (λ (ns : Sizes). up_in ns c) lent ∙ sym (rw (sym e ∙ h))

@@ -95,13 +95,13 @@ module _ (p : List ℕ) (i k : ℕ) (hi : i < length p) (hk : k < length p) wher
 
 -- ---- the loop: of the elements before i those that are not wanted stand from k on
 
-pub settle_no : (b : Bool) (p : List ℕ) (i k : ℕ) → not b ≡ true → (p ≡ settle_list b p i k) × (k ≡ settle_count b k)
+pub settle_no : (b : Bool) (p : List ℕ) (i k : ℕ) → b ≡ false → (p ≡ settle_list b p i k) × (k ≡ settle_count b k)
 unfolding settle_list settle_count
-settle_no b p i k h = rw (not-true b h) (refl, refl)
+settle_no b p i k h = rw h (refl, refl)
 
-pub settle_yes : (b : Bool) (p : List ℕ) (i k : ℕ) → not b ≡ false → (swap_of p i k ≡ settle_list b p i k) × (k + 1 ≡ settle_count b k)
+pub settle_yes : (b : Bool) (p : List ℕ) (i k : ℕ) → b ≡ true → (swap_of p i k ≡ settle_list b p i k) × (k + 1 ≡ settle_count b k)
 unfolding settle_list settle_count
-settle_yes b p i k h = rw (not-false b h) (refl, refl)
+settle_yes b p i k h = rw h (refl, refl)
 
 module _ (wanted : ℕ → Bool) (p : List ℕ) (lo hi : ℕ) where
   pub record Parting (q : List ℕ) (i k : ℕ) : Type 0 where

@@ -28,13 +28,13 @@ use Rattle.listing.specs.Pages.{P, refused, listed_in, page_in, page_by, page_of
 -- ---- the refusals
 
 module _ (ns : Sizes) (d : Row → Bool) (c : Cursor) (budget : ℕ) (o : List ℕ) (t : Bool) (k : Tested ns c t) where
-  pub page_bad : not t ≡ true → refused c BadCursor o ≡ page_in ns d c budget o
+  pub page_bad : t ≡ false → refused c BadCursor o ≡ page_in ns d c budget o
   unfolding page_in
-  page_bad h = rw (sym k.is ∙ not-true t h)
+  page_bad h = rw (sym k.is ∙ h)
 
-  module _ (h : not t ≡ false) where
+  module _ (h : t ≡ true) where
     ok : cursor_ok ns c ≡ true
-    ok = sym k.is ∙ not-false t h
+    ok = sym k.is ∙ h
 
     pub page_no_room : length o < length ns → refused c NoRoom o ≡ page_in ns d c budget o
     unfolding page_in
@@ -55,7 +55,7 @@ module _ (ns : Sizes) (d : Row → Bool) (c : Cursor) (budget : ℕ) (o : List �
         page_listed m x q = q ∙ sym (rw (ok, le-ltb (length o) (length ns) r, ne_eqb budget 0 e, le-ltb 65535 budget m))
 
         pub page_starts : (b : List ℕ) (rules : ℕ) → Standard b rules ns → Starts b rules ns c o budget
-        page_starts b rules s = record { standard = s; good = good_of ns c s.limited.short (k.sixteen (not-false t h)) ok; row = r; step = omega arith }
+        page_starts b rules s = record { standard = s; good = good_of ns c s.limited.short (k.sixteen h) ok; row = r; step = omega arith }
 
 -- ---- a book of edition 1
 

@@ -21,17 +21,17 @@ use Rattle.listing.proofs.laws.Standing.{place_add, place_next, rules_add, rules
 -- ---- the ways out of `widen`
 
 module _ (w : Span) (lasts : Bool) (at i : ℕ) where
-  pub widen_not : not lasts ≡ true → w ≡ widen_of w lasts at i
+  pub widen_not : lasts ≡ false → w ≡ widen_of w lasts at i
   unfolding widen_of
-  widen_not h = rw (not-true lasts h)
+  widen_not h = rw h
 
-  pub widen_first : not lasts ≡ false → w.end ≡ 0 → ◌≡◌ {A = Span} (record { at = at; first = i; end = i + 1 }) (widen_of w lasts at i)
+  pub widen_first : lasts ≡ true → w.end ≡ 0 → ◌≡◌ {A = Span} (record { at = at; first = i; end = i + 1 }) (widen_of w lasts at i)
   unfolding widen_of
-  widen_first h e = rw (not-false lasts h, eq-eqb w.end 0 e)
+  widen_first h e = rw (h, eq-eqb w.end 0 e)
 
-  pub widen_more : not lasts ≡ false → (w.end ≡ 0 → ⊥) → ◌≡◌ {A = Span} (record { at = w.at; first = w.first; end = i + 1 }) (widen_of w lasts at i)
+  pub widen_more : lasts ≡ true → (w.end ≡ 0 → ⊥) → ◌≡◌ {A = Span} (record { at = w.at; first = w.first; end = i + 1 }) (widen_of w lasts at i)
   unfolding widen_of
-  widen_more h e = rw (not-false lasts h, ne_eqb w.end 0 e)
+  widen_more h e = rw (h, ne_eqb w.end 0 e)
 
 -- ---- the loop of the scan: i rules from place `from` on are judged
 

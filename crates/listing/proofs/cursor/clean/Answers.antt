@@ -7,7 +7,7 @@ use Rattle.listing.proofs.laws.CursorTests.{cleaning_start, cleaning_on, cleanin
 use Rattle.listing.proofs.cursor.clean.Goals as goal
 
 pub loop-i-init : goal.loop-i-init
-loop-i-init c = cleaning_start _ _ (search rules) (sym (length-map c.args.c.values-1 _) ∙ c.well_formed.0.1.1.1.0.1.0.1)
+loop-i-init c = cleaning_start _ _ (search rules) (search rules)
 
 pub returns-then-values-i-ne0 : goal.returns-then-values-i-ne0
 returns-then-values-i-ne0 c = search (cleaning_no, arith)

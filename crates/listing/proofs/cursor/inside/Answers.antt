@@ -2,11 +2,12 @@
 use native.Mathlib.Omega.{arith}
 use mathlib.Core.Path.{sym, ◌∙◌}
 use lib.ListN.{length-map}
+use borrow.Author.Rules.{rules}
 use Rattle.listing.proofs.laws.CursorTests.{fitting_start, fitting_on, fitting_no, fitting_end}
 use Rattle.listing.proofs.cursor.inside.Goals as goal
 
 pub loop-i-init : goal.loop-i-init
-loop-i-init c = fitting_start _ _ _ (sym (length-map c.args.c.values-1 _) ∙ c.well_formed.1.0.1.1.1.0.1.0.1)
+loop-i-init c = fitting_start _ _ _ (search rules)
 
 pub returns-then-sizes-i : goal.returns-then-sizes-i
 returns-then-sizes-i c = search (fitting_no, arith)

@@ -21,7 +21,7 @@ pub bounds-fronts-g-in-loop-g : goal.bounds-fronts-g-in-loop-g
 bounds-fronts-g-in-loop-g c = omega (arith, c.requires.1, c.loop-g-test.true)
 
 pub loop-g-preserved : goal.loop-g-preserved
-loop-g-preserved c = rw c.short.ensures (narrowing_on _ _ _ _ _ _ _ _ _ _ c.loop-g.invariant (omega (arith, c.requires.1, c.loop-g-test.true)) _ _ c.entry-from.ensures.0 c.entry-end.ensures.0 _ _ c.sift-k.ensures _ c.sift-k.auto.1.1.0)
+loop-g-preserved c = rw c.short.ensures (narrowing_on _ _ _ _ _ _ _ _ _ _ c.loop-g.invariant (omega (arith, c.requires.1, c.loop-g-test.true)) _ _ c.entry-from.ensures.0 c.entry-end.ensures.0 _ _ c.sift-k.ensures _ c.sift-k.auto.hints)
 
 pub shape_of-places : goal.shape_of-places
 shape_of-places c = omega (arith, c.loop-g.invariant.done.kept.long)

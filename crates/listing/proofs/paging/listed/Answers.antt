@@ -10,10 +10,10 @@ pub finished-requires : goal.finished-requires
 finished-requires c =
     let a = c.args in
     let w = c.start-w in
-    listed_last a.book.now a.rules a.sizes.now a.cursor a.room.now a.budget c.requires w.result w.new.1.1.1.0 w.ensures
+    listed_last a.book.now a.rules a.sizes.now a.cursor a.room.now a.budget c.requires w.result w.new.room w.ensures
 
 pub returns : goal.returns
 returns c =
     let a = c.args in
     let w = c.start-w in
-    listed_page a.book.now a.rules a.sizes.now a.cursor a.room.now a.budget c.requires w.result w.new.1.1.1.0 w.ensures c.finished.result c.finished.ensures
+    listed_page a.book.now a.rules a.sizes.now a.cursor a.room.now a.budget c.requires w.result w.new.room w.ensures c.finished.result c.finished.ensures

@@ -15,7 +15,7 @@ pub interval-requires : goal.interval-requires
 interval-requires c =
     let s = c in
     judged_inside _ _ _ s.requires.0 s.requires.1 s.requires.2 _ c.wide-count.ensures.0 c.if-count-eq0.false _ c.wide-last.ensures.0
-    _ c.early.ensures _ _ c.p-1.given.1
+    _ c.early.ensures _ _ c.in-Left.is
 
 pub returns-in-Holds : goal.returns-in-Holds
 returns-in-Holds c = search (judges_holds, arith)

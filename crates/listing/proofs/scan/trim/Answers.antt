@@ -16,4 +16,4 @@ pub rule_end-p-requires : goal.rule_end-p-requires
 rule_end-p-requires c = search (trims_inside, arith)
 
 pub loop-left-preserved : goal.loop-left-preserved
-loop-left-preserved c = trims_on _ _ _ _ _ _ _ c.loop-left.invariant c.loop-left-test.true _ c.met_from.ensures (not-false _ c.if-not-met_from.false) _ c.rule_end-p.ensures
+loop-left-preserved c = trims_on _ _ _ _ _ _ _ c.loop-left.invariant c.loop-left-test.true _ c.met_from.ensures c.if-not-met_from.false _ c.rule_end-p.ensures

@@ -5,7 +5,7 @@ pub returns-then-old-eq0 : goal.returns-then-old-eq0
 returns-then-old-eq0 c = again_not _ _ _
 
 pub same-requires : goal.same-requires
-same-requires c = let s = c in (s.pre.old c.if-old-eq0.left, s.pre.new)
+same-requires c = (c.requires.old c.if-old-eq0.false, c.requires.new)
 
 pub returns : goal.returns
-returns c = again_same _ _ _ _ c.if-old-eq0.left c.same.ensures
+returns c = again_same _ _ _ _ c.if-old-eq0.false c.same.ensures

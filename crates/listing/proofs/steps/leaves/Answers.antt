@@ -69,7 +69,7 @@ loop-v-preserved c =
     let s = c in
     let a = s.args in
     let lp = c.loop-v in
-    leafing_on (Listing.dead (rules_in a.book.now)) a.sizes.now a.cur a.fit a.budget a.w a.from a.room.now s.requires.0 s.requires.1 lp.room lp.dead lp.rows lp.steps lp.v lp.invariant c.loop-v-test.true c.if-fit-rows.false c.if-budget-steps.false a.set s.requires.2 c.wide-i.result c.wide-i.ensures.0 c.lacks-dead.result c.lacks-dead.ensures c.leaf-rows.result c.leaf-rows.new.0 c.leaf-rows.ensures c.leaf-rows.auto.0
+    leafing_on (Listing.dead (rules_in a.book.now)) a.sizes.now a.cur a.fit a.budget a.w a.from a.room.now s.requires.0 s.requires.1 lp.room lp.dead lp.rows lp.steps lp.v lp.invariant c.loop-v-test.true c.if-fit-rows.false c.if-budget-steps.false a.set s.requires.2 c.wide-i.result c.wide-i.ensures.0 c.lacks-dead.result c.lacks-dead.ensures c.leaf-rows.result c.leaf-rows.new.room c.leaf-rows.ensures c.leaf-rows.auto.room
 
 pub leafed-requires-2 : goal.leafed-requires-2
 leafed-requires-2 c =

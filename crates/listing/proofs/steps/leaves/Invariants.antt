@@ -6,7 +6,7 @@ use Rattle.listing.proofs.steps.leaves.Given as goal
 
 abbrev pub invariant-loop-v : goal.invariant-loop-v
 invariant-loop-v l =
-    Leafing (Listing.l.dead (rules_in l.book)) l.sizes l.cur l.fit l.budget l.w l.from l.initial.room l.room l.dead l.rows l.steps l.v
+    Leafing (Listing.dead (rules_in l.book)) l.sizes l.cur l.fit l.budget l.w l.from l.initial.room l.room l.dead l.rows l.steps l.v
 
 abbrev pub decreases-loop-v : goal.decreases-loop-v
 decreases-loop-v l =

@@ -49,7 +49,7 @@ loop-v-preserved c =
     let s = c in
     let a = s.args in
     let lp = c.loop-v in
-    skipping_on (dead (rules_in a.book.now)) a.sizes.now a.cur a.fit a.budget a.w a.from lp.steps lp.v lp.invariant s.requires.0 (omega (arith, s.requires.1, s.requires.2.short)) c.loop-v-test.true (s.requires.2.few _ s.requires.1) c.if-fit-rows.false c.if-budget-steps.false a.set s.requires.3 c.wide-i.result c.wide-i.ensures.0 c.lacks-dead.result c.lacks-dead.ensures (not-false _ c.if-not-dead.false)
+    skipping_on (dead (rules_in a.book.now)) a.sizes.now a.cur a.fit a.budget a.w a.from lp.steps lp.v lp.invariant s.requires.0 (omega (arith, s.requires.1, s.requires.2.short)) c.loop-v-test.true (s.requires.2.few _ s.requires.1) c.if-fit-rows.false c.if-budget-steps.false a.set s.requires.3 c.wide-i.result c.wide-i.ensures.0 c.lacks-dead.result c.lacks-dead.ensures c.if-not-dead.false
 
 pub after_run-requires-2 : goal.after_run-requires-2
 after_run-requires-2 c =

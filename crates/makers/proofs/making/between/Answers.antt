@@ -17,9 +17,5 @@ slot-requires c = (search apart_ready, search rules)
 
 pub returns : goal.returns
 returns c =
-    let at-push2 = c in
-    let at_push = at-push2.before.before in
-    let at-narrow = at_push.before.before in
-    let start = at-narrow.before.before.before.before.before.before.before in
-    apart_sent _ _ _ _ _ start.requires.0 _ at-narrow.before.differs-before.ensures _ at-narrow.narrow.ensures _ at_push.push.ensures
-    _ at-push2.push2.ensures _ _ _ _ _ _ c.apart-ruled.ensures c.slot.ensures
+    apart_sent _ _ _ _ _ c.requires.0 _ c.differs_before-before.ensures _ c.narrow-setting.ensures _ c.push-most.ensures
+    _ c.push-rule.ensures _ _ _ _ _ _ c.apart-ruled.ensures c.slot.ensures

@@ -8,34 +8,21 @@ use Rattle.makers.proofs.making.row_rules.Goals as goal
 
 pub edges-lefts-requires : goal.edges-lefts-requires
 edges-lefts-requires c =
-    let start = c in (
-      given_sides _ _ _ start.requires.0 _ _ _ _ _ (omega arith) c.row-values.ensures c.fork-left.ensures (omega arith),
-      search rules,
-    )
+    (given_sides _ _ _ c.requires.0 _ _ _ _ _ (omega arith) c.row-values.ensures c.fork-left.ensures (omega arith), search rules)
 
 pub edges-rights-requires : goal.edges-rights-requires
 edges-rights-requires c =
-    let at-edges = c in
-    let at_row = at-edges.before.before in
-    let start = at_row.before.before.before.before.before.before in (
-      given_sides _ _ _ start.requires.0 _ _ _ _ _ (omega arith) at_row.row.ensures at_row.before.fork2.ensures (omega arith),
-      sent_countable _ _ _ _ _ _ _ _ _ _ at-edges.edges.ensures start.requires.2 (omega arith),
+    (
+      given_sides _ _ _ c.requires.0 _ _ _ _ _ (omega arith) c.row-values.ensures c.fork-right.ensures (omega arith),
+      sent_countable _ _ _ _ _ _ _ _ _ _ c.edges-lefts.ensures c.requires.2 (omega arith),
     )
 
 pub middle-requires : goal.middle-requires
 middle-requires c =
-    let at-edges2 = c in
-    let at-edges = at-edges2.before.before.before.before in
-    let start = at-edges.before.before.before.before.before.before.before.before in
-    let one : Countable at-edges.edges.result 17 = sent_countable _ _ _ _ _ _ _ _ _ _ at-edges.edges.ensures start.requires.2 (omega arith) in
-    (start.requires.0, start.requires.1, sent_countable _ _ _ _ _ _ _ _ _ _ at-edges2.edges2.ensures one (omega arith))
+    let one : Countable c.edges-lefts.result 17 = sent_countable _ _ _ _ _ _ _ _ _ _ c.edges-lefts.ensures c.requires.2 (omega arith) in
+    (c.requires.0, c.requires.1, sent_countable _ _ _ _ _ _ _ _ _ _ c.edges-rights.ensures one (omega arith))
 
 pub returns : goal.returns
 returns c =
-    let at-middle = c in
-    let at-edges2 = at-middle.before.before.before.before in
-    let at-edges = at-edges2.before.before.before.before in
-    let at_row = at-edges.before.before in
-    let start = at_row.before.before.before.before.before.before in
-    row_sent _ _ _ start.requires.0 _ start.requires.1 _ _ _ _ _ _ _ _ _ _ _ _ at_row.row.ensures at_row.before.before.fork.ensures
-    at_row.before.fork2.ensures at-edges.edges.ensures at-edges2.edges2.ensures at-middle.middle.ensures
+    row_sent _ _ _ c.requires.0 _ c.requires.1 _ _ _ _ _ _ _ _ _ _ _ _ c.row-values.ensures c.fork-left.ensures
+    c.fork-right.ensures c.edges-lefts.ensures c.edges-rights.ensures c.middle.ensures

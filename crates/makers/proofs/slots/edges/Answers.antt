@@ -18,13 +18,8 @@ differ-h-requires c = search edges_spare
 
 pub loop-i-preserved : goal.loop-i-preserved
 loop-i-preserved c =
-    let at_slot = c in
-    let at-ruled = at_slot.before.before in
-    let at_push = at-ruled.before.before.before in
-    let at-narrow = at_push.before.before in
-    let in-loop = at-narrow.before in
-    edges_on _ _ _ _ _ _ _ _ _ _ _ _ in-loop.before.loop.invariant in-loop.loop-test.true _ _ at-narrow.narrow.ensures at_push.push.ensures
-    _ _ _ _ at-ruled.ruled.ensures at_slot.slot.ensures at_slot.slot.auto.1.1.1.1.1.0 c.differ-h.ensures
+    edges_on _ _ _ _ _ _ _ _ _ _ _ _ c.loop-i.invariant c.loop-i-test.true _ _ c.narrow-setting.ensures c.push-rule.ensures
+    _ _ _ _ c.ruled-open.ensures c.slot-sent.ensures c.slot-sent.auto.room c.differ-h.ensures
 
 pub returns : goal.returns
 returns c = search edges_end

@@ -9,16 +9,16 @@ pub returns-then-not-limits : goal.returns-then-not-limits
 returns-then-not-limits c = search (down_outside, arith)
 
 pub narrow-space-requires : goal.narrow-space-requires
-narrow-space-requires c = omega (arith, (limits_known _ _ _ c.limits.ensures (not-false _ c.if-not-limits.false)).few)
+narrow-space-requires c = omega (arith, (limits_known _ _ _ c.limits.ensures c.if-not-limits.false).few)
 
 pub slice_bounds-space-end : goal.slice_bounds-space-end
-slice_bounds-space-end c = (limits_known _ _ _ c.limits.ensures (not-false _ c.if-not-limits.false)).narrow
+slice_bounds-space-end c = (limits_known _ _ _ c.limits.ensures c.if-not-limits.false).narrow
 
 pub slice_bounds-sizes-end : goal.slice_bounds-sizes-end
-slice_bounds-sizes-end c = lent_length _ _ (limits_known _ _ _ c.limits.ensures (not-false _ c.if-not-limits.false)) _ c.narrow-space.ensures
+slice_bounds-sizes-end c = lent_length _ _ (limits_known _ _ _ c.limits.ensures c.if-not-limits.false) _ c.narrow-space.ensures
 
 pub deeper-requires : goal.deeper-requires
-deeper-requires c = lent_sized _ _ (limits_known _ _ _ c.limits.ensures (not-false _ c.if-not-limits.false)) _ c.narrow-space.ensures
+deeper-requires c = lent_sized _ _ (limits_known _ _ _ c.limits.ensures c.if-not-limits.false) _ c.narrow-space.ensures
 
 pub returns : goal.returns
 returns c = search (down_lent, arith)
