@@ -2,10 +2,11 @@
 // count as 0. The book is made in 65,536 lent bytes. Each line is put together in a buffer and written at once.
 #![tactic(auto)]
 
-ghost use Rattle.std.specs.Prelude.{◌<◌};
+ghost use Rattle.std.specs.Prelude.{◌<◌, ◌≤◌, length, IfOk};
 
-use libc::{STDIN_FILENO, STDOUT_FILENO};
 use rulebook::{Flaw, Made};
+use std::io;
+use std::io::{Read, Write};
 
 // Puts a byte at `at` and gives the next place; a full line stays as it is.
 fn put(line: &mut [u8], at: usize, byte: u8) -> usize {
@@ -56,20 +57,21 @@ fn put_after(line: &mut [u8], at: usize, v: usize) -> usize {
 }
 
 // Writes the first `end` bytes of a line.
-fn write_line(line: &[u8], end: usize) {
+fn write_line<W: Write>(out: &mut W, line: &[u8], end: usize) -> io::Result<()> {
     if end <= line.len() {
-        io::write_all(STDOUT_FILENO, &line[..end]);
+        return out.write_all(&line[..end]);
     }
+    Ok(())
 }
 
 // Writes the line up to `at`, and its end.
-fn end_line(line: &mut [u8], at: usize) {
+fn end_line<W: Write>(out: &mut W, line: &mut [u8], at: usize) -> io::Result<()> {
     let end = put(line, at, 10);
-    write_line(line, end);
+    write_line(out, line, end)
 }
 
 // The line of a refusal: its number and what it gives.
-fn refused(number: usize, gives: &[usize]) {
+fn refused<W: Write>(out: &mut W, number: usize, gives: &[usize]) -> io::Result<()> {
     let mut space = [0u8; 256];
     let line: &mut [u8] = &mut space;
     let mut end = put_word(line, 0, b"refused");
@@ -79,21 +81,27 @@ fn refused(number: usize, gives: &[usize]) {
         end = put_after(line, end, gives[i]);
         i += 1;
     }
-    end_line(line, end);
+    end_line(out, line, end)
 }
 
-fn flawed(flaw: Flaw) {
+fn flawed<W: Write>(out: &mut W, flaw: Flaw) -> io::Result<()> {
     match flaw {
-        Flaw::Limits => refused(1, &[]),
-        Flaw::Length => refused(2, &[]),
-        Flaw::Rows(rows) => refused(3, &[rows]),
-        Flaw::Value(place) => refused(4, &[place]),
-        Flaw::Order(row) => refused(5, &[row]),
+        Flaw::Limits => refused(out, 1, &[]),
+        Flaw::Length => refused(out, 2, &[]),
+        Flaw::Rows(rows) => refused(out, 3, &[rows]),
+        Flaw::Value(place) => refused(out, 4, &[place]),
+        Flaw::Order(row) => refused(out, 5, &[row]),
     }
 }
 
 // The head line: n, l, family, number of rules.
-fn head_line(n: usize, l: usize, family: usize, rules: usize) {
+fn head_line<W: Write>(
+    out: &mut W,
+    n: usize,
+    l: usize,
+    family: usize,
+    rules: usize,
+) -> io::Result<()> {
     let mut space = [0u8; 256];
     let line: &mut [u8] = &mut space;
     let mut end = put_word(line, 0, b"book");
@@ -101,7 +109,7 @@ fn head_line(n: usize, l: usize, family: usize, rules: usize) {
     end = put_after(line, end, l);
     end = put_after(line, end, family);
     end = put_after(line, end, rules);
-    end_line(line, end);
+    end_line(out, line, end)
 }
 
 fn wide(byte: u8) -> usize
@@ -126,7 +134,7 @@ fn put_literal(line: &mut [u8], at: usize, setting: u8, sign: u8, bound: u8) -> 
 }
 
 // The line of the rule whose literals these bytes are.
-fn rule_line(number: usize, literals: &[u8]) {
+fn rule_line<W: Write>(out: &mut W, number: usize, literals: &[u8]) -> io::Result<()> {
     let mut space = [0u8; 256];
     let line: &mut [u8] = &mut space;
     let mut end = put_word(line, 0, b"rule");
@@ -136,30 +144,31 @@ fn rule_line(number: usize, literals: &[u8]) {
         end = put_literal(line, end, literals[p], literals[p + 1], literals[p + 2]);
         p += 3;
     }
-    end_line(line, end);
+    end_line(out, line, end)
 }
 
 // The lines of the rules of the book at the start of these bytes, record after record.
-fn rule_lines(book: &[u8], rules: usize) {
+fn rule_lines<W: Write>(out: &mut W, book: &[u8], rules: usize) -> io::Result<()> {
     let mut place: usize = 7;
     let mut k: usize = 0;
     while k < rules {
         if book.len() < 10 {
-            return;
+            return Ok(());
         }
         if book.len() - 3 < place {
-            return;
+            return Ok(());
         }
         let from = place + 3;
         let length = 3 * wide(book[place + 2]);
         if book.len() - from < length {
-            return;
+            return Ok(());
         }
         let to = from + length;
-        rule_line(k, &book[from..to]);
+        rule_line(out, k, &book[from..to])?;
         place = to;
         k += 1;
     }
+    Ok(())
 }
 
 // The byte at place i as a number, 0 where there is none.
@@ -180,32 +189,45 @@ fn table_of(input: &[u8]) -> &[u8] {
 }
 
 // Makes the book of the input's table in the room and prints it, or the refusal.
-fn describe_in(input: &[u8], room: &mut [u8]) {
+fn describe_in<W: Write>(out: &mut W, input: &[u8], room: &mut [u8]) -> io::Result<()> {
     let n = first(input, 0);
     let l = first(input, 1);
     let family = first(input, 2);
     match rulebook::make(n, l, family, table_of(input), room) {
         Made::Book { length: _, rules } => {
-            head_line(n, l, family, rules);
-            rule_lines(room, rules);
+            head_line(out, n, l, family, rules)?;
+            rule_lines(out, room, rules)
         }
-        Made::Flawed(flaw) => flawed(flaw),
-        Made::Family => refused(6, &[]),
-        Made::Pair(i, j) => refused(7, &[i, j]),
-        Made::Triple(i, j, k) => refused(7, &[i, j, k]),
-        Made::Room(needed) => refused(8, &[needed]),
+        Made::Flawed(flaw) => flawed(out, flaw),
+        Made::Family => refused(out, 6, &[]),
+        Made::Pair(i, j) => refused(out, 7, &[i, j]),
+        Made::Triple(i, j, k) => refused(out, 7, &[i, j, k]),
+        Made::Room(needed) => refused(out, 8, &[needed]),
     }
 }
 
-fn describe(input: &[u8]) {
-    let mut space = io::large_buffer();
-    describe_in(input, &mut space);
+fn describe<W: Write>(out: &mut W, input: &[u8]) -> io::Result<()> {
+    let mut space = [0u8; 65536];
+    describe_in(out, input, &mut space)
 }
 
-fn main() {
-    let mut space = io::large_buffer();
-    let got = io::read_full(STDIN_FILENO, &mut space);
-    if got <= space.len() {
-        describe(&space[..got]);
+// Reads until the buffer is full or the input ends. Gives how many bytes.
+fn read_full<R: Read>(input: &mut R, space: &mut [u8]) -> io::Result<usize>
+    ensures { IfOk result (λ got. got ≤ length space.new) }
+{
+    let mut done: usize = 0;
+    while done < space.len() {
+        let got = input.read(&mut space[done..])?;
+        if got == 0 {
+            break;
+        }
+        done += got;
     }
+    Ok(done)
+}
+
+fn main(rt: HostRuntime) -> io::Result<()> {
+    let mut space = [0u8; 65536];
+    let got = read_full(&mut rt.reader(), &mut space)?;
+    describe(&mut io::writer(&rt), &space[..got])
 }
