@@ -10,7 +10,7 @@ use lib.Dec.{T}
 use lib.ListN.{length}
 use borrow.Author.Tests.{lt-ltb, le-ltb}
 use Rattle.meaning.specs.Lists.{each}
-use Rattle.meaning.specs.Rows.{Row, Sizes, at, row, within, sound}
+use Rattle.meaning.specs.Rows.{Row, Sizes, row, within, sound}
 use Rattle.meaning.specs.Rules.{all_met}
 use Rattle.meaning.specs.General.{split, fork, middle, row_rules, general}
 use Rattle.meaning.proofs.Tests.{lt_or_le, T_and}

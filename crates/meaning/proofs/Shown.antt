@@ -1,5 +1,5 @@
 -- The visited prefixes that are shown are the permitted combinations, each once, ascending.
-use Prim.Native.Nat.{ℕ, suc, ◌≤◌, ◌<◌}
+use Prim.Native.Nat.{ℕ, ◌≤◌, ◌<◌}
 use native.Mathlib.Omega.{arith}
 use mathlib.Core.Path.{◌≡◌, refl, sym, ap, ◌∙◌, fun_ext}
 use mathlib.Core.Bool.{Bool, true, false, cond, not, not-not}

@@ -3,8 +3,8 @@ use Prim.Native.Nat.{ℕ, ◌≤◌, ◌<◌}
 use native.Mathlib.Omega.{arith}
 use mathlib.Core.Path.{◌≡◌, refl}
 use mathlib.Core.Logic.{◌↔◌, ◌≢◌, ◌⊎◌, inl, inr}
-use mathlib.Core.Bool.{Bool, true, false, not, ◌&&◌, ◌||◌}
-use lib.Dec.{T, leb, ltb, eqb, leb→le, le→leb}
+use mathlib.Core.Bool.{Bool, true, false, ◌&&◌, ◌||◌}
+use lib.Dec.{T, leb, ltb, leb→le, le→leb}
 use borrow.Author.Tests.{ltb-true, ltb-false}
 
 -- ---- cases

@@ -1,6 +1,6 @@
 -- The visited prefixes RELATIVE to the prefix one stands at: below the value v the sizes are the tail and dead is d (v ∷ _), so that
 -- every proof is an induction from the head. `visits_tree` crosses over to the definition.
-use Prim.Native.Nat.{ℕ, zero, suc, ◌+◌, ◌≤◌}
+use Prim.Native.Nat.{ℕ, zero, suc, ◌≤◌}
 use native.Mathlib.Omega.{arith}
 use mathlib.Core.Path.{◌≡◌, refl, sym, ap, ◌∙◌, fun_ext}
 use mathlib.Core.Bool.{Bool, true, false, cond}

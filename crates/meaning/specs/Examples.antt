@@ -1,9 +1,8 @@
 -- Document 01's examples P1 to P10, computed from the definitions: one table, one theorem, which names the entries that are wrong.
-use Rattle.std.specs.Prelude.{ℕ, ◌+◌, ◌≡◌, refl, Bool, true, false, cond, not, ◌&&◌, List, [], ◌∷◌, ◌++◌, map, eqb, ltb, leb, length}
+use Rattle.std.specs.Prelude.{ℕ, ◌≡◌, refl, Bool, true, false, cond, ◌&&◌, List, [], ◌∷◌, eqb, length}
 use Rattle.std.proofs.Math.Option.{Option, none, some}
-use Rattle.meaning.specs.Lists.{each, keep}
 use Rattle.meaning.specs.Rows.{Row, alike, before, same, is_row}
-use Rattle.meaning.specs.Rules.{Literal, at_most, at_least, Rule, holds, met, scarce, scarces, horn}
+use Rattle.meaning.specs.Rules.{at_most, at_least, Rule, holds, met, scarce, scarces, horn}
 use Rattle.meaning.specs.General.{differs, earlier, split, fork, left_at, right_at, mid_at, middle, row_rules, general}
 use Rattle.meaning.specs.Families.{fill, pick, both, mid, median, common, common_and, join, extreme, keep_for, reduce, met_by_all, trim, reduce_for, rules_for}
 use Rattle.meaning.specs.Closed.{or_else, first, first_pair, first_triple, unless, open_pair, open_triple, open_rows}

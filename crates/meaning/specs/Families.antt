@@ -1,9 +1,9 @@
 -- The other families: rows combined setting by setting, and how a general rule is reduced to Horn, dual Horn or bijunctive.
-use Rattle.std.specs.Prelude.{ℕ, zero, suc, min, max, Bool, true, false, cond, ◌&&◌, ◌≡◌, ◌↔◌, length, T}
+use Rattle.std.specs.Prelude.{ℕ, zero, suc, min, max, Bool, true, cond, ◌&&◌, ◌≡◌, ◌↔◌, length, T}
 use mathlib.Core.List.{List, [], ◌∷◌, ◌++◌, map, Memᴰ}
 use Rattle.std.proofs.Math.Option.{Option, none, some}
 use Rattle.meaning.specs.Rows.{Row, Sizes, at, within}
-use Rattle.meaning.specs.Rules.{Literal, Rule, Side, low, high, holds, met, scarce, horn, by_family, all_met, in_family}
+use Rattle.meaning.specs.Rules.{Rule, Side, low, high, holds, met, scarce, horn, by_family, all_met, in_family}
 use Rattle.meaning.specs.General.{general}
 use Rattle.meaning.specs.Lists.{All}
 

@@ -1,9 +1,9 @@
 -- The general maker: the rules of a table, as document 01 words them.
 -- Document 01 counts rows from 1 and calls setting i level i + 1; here both count from 0, so its row k is `row rows (k - 1)`.
-use Rattle.std.specs.Prelude.{ℕ, zero, suc, ◌+◌, ◌-◌, Bool, true, false, cond, List, [], ◌∷◌, ◌++◌, ltb, eqb, length}
+use Rattle.std.specs.Prelude.{ℕ, zero, suc, ◌+◌, ◌-◌, cond, List, [], ◌∷◌, ◌++◌, ltb, eqb, length}
 use Rattle.meaning.specs.Lists.{opt, each}
 use Rattle.meaning.specs.Rows.{Row, Sizes, at, row}
-use Rattle.meaning.specs.Rules.{Literal, at_most, at_least, Rule}
+use Rattle.meaning.specs.Rules.{at_most, at_least, Rule}
 
 -- setting i, of n values, differs from v: "at most v-1" if v > 0 and "at least v+1" if v < n-1
 unfoldable pub differs : ℕ → ℕ → ℕ → Rule

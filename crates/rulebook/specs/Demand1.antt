@@ -6,12 +6,12 @@ use Rattle.std.proofs.Math.Bool.{cond}
 use Rattle.std.proofs.Math.Option.{Option, none, some}
 use Rattle.std.proofs.Math.Dec.{ltb}
 use Rattle.std.proofs.Math.ListN.{length}
-use Rattle.meaning.proofs.Tests.{Case, case, is, isnt}
+use Rattle.meaning.proofs.Tests.{case, is, isnt}
 use Rattle.meaning.specs.Rows.{Row, alike, rows_of, limits}
 use Rattle.meaning.proofs.Alike.{alike_length}
 use Rattle.meaning.specs.Closed.{or_else, unless, open_rows, FirstOpenFor}
 use Rattle.tables.specs.declared.Flaw.{Flaw}
-use Rattle.tables.specs.declared.Flaw.TheVariants.{Limits, Length, Rows, Value, Order}
+use Rattle.tables.specs.declared.Flaw.TheVariants.{Limits}
 use Rattle.tables.specs.declared.Checked.{Checked}
 use Rattle.tables.specs.declared.Checked.TheVariants.{Sound, Flawed}
 use Rattle.tables.specs.Check.{first_high, first_low, row_flaw_of, flaw_of, answer, checked_of, values_of}
@@ -28,9 +28,8 @@ use Rattle.books.specs.Format.{read_of}
 use Rattle.books.specs.Tested.{judge_of, judge_read, tested_of, first_unmet, first_over}
 use Rattle.meaning.specs.Listing.{dead, page}
 use Rattle.listing.specs.declared.cursor.Cursor.{Cursor}
-use Rattle.listing.specs.declared.paging.Paged.{Paged}
 use Rattle.listing.specs.Cursors.{prefix_of, cursor_ok}
-use Rattle.listing.specs.Pages.{P, page_in, page_by, listed_in, page_of}
+use Rattle.listing.specs.Pages.{page_in, page_by, listed_in, page_of}
 use Rattle.rulebook.specs.Told.{Told, Refusal, flaw_told, checked_told, made_told, tested_told, outcome_told, first_of, first_of_append}
 
 -- ---- check: 1 to 5

@@ -1,13 +1,12 @@
 -- Demand 2: a combination meets the rules made from a table exactly when it is a row.
-use Rattle.std.specs.Prelude.{ℕ, ◌/◌, ◌≤◌, ◌<◌, ◌≡◌, refl, ◌↔◌, ◌≢◌, T, length, take, get_or}
-use Rattle.std.proofs.Common.{arith, sym, ap, ◌∙◌}
+use Rattle.std.specs.Prelude.{ℕ, ◌/◌, ◌≤◌, ◌<◌, ◌≡◌, refl, ◌↔◌, T, length, take, get_or}
+use Rattle.std.proofs.Common.{arith}
 use mathlib.Core.List.{List, [], Memᴰ}
-use Rattle.std.proofs.Math.Option.{Option, none, some}
 use Rattle.meaning.specs.Rows.{Row, Sizes, alike, within, sound, rows_of}
 use Rattle.meaning.specs.Rules.{Rule, all_met, AllGood, Parts}
 use Rattle.meaning.specs.General.{general}
 use Rattle.meaning.specs.Families.{rules_for, Has}
-use Rattle.meaning.specs.Closed.{ClosedFor, open_rows, FirstOpenFor}
+use Rattle.meaning.specs.Closed.{ClosedFor, FirstOpenFor}
 use Rattle.meaning.proofs.Given.{open_none, open_first}
 use Rattle.meaning.proofs.Made as meant
 use Rattle.meaning.proofs.Bounds as bounds
@@ -21,12 +20,11 @@ use Rattle.books.proofs.laws.Written as books
 use Rattle.books.proofs.laws.Accepted as accepted
 use Rattle.books.specs.Tested.{tested_of}
 use Rattle.books.proofs.laws.Tested.{tested_permitted}
-use Rattle.makers.specs.Made.{number_of, rules_made, bytes_made, open_as, made_of, Tested, Grants}
+use Rattle.makers.specs.Made.{number_of, rules_made, bytes_made, made_of, Tested, Grants}
 use Rattle.makers.proofs.laws.Cases.{Makes, flawed, unknown, unclosed, narrow, given, made_cases}
 use Rattle.makers.proofs.laws.Promised.{Gives, made_given, made_gives, made_general}
-use Rattle.tables.specs.declared.Checked.TheVariants.{Sound, Flawed}
 use Rattle.tables.proofs.laws.Promised.{checked_sound}
-use Rattle.rulebook.specs.Told.{Told, made_told}
+use Rattle.rulebook.specs.Told.{made_told}
 use Rattle.rulebook.specs.Demand1.{open_told}
 
 -- ---- given

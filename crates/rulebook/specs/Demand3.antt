@@ -1,5 +1,5 @@
 -- Demand 3: any accepted book, typed or made, listed page by page, ends, and shows every permitted combination exactly once, ascending.
-use Rattle.std.specs.Prelude.{ℕ, ◌≤◌, ◌≡◌, refl, ◌↔◌, Bool, true, false, T, length}
+use Rattle.std.specs.Prelude.{ℕ, ◌≤◌, ◌≡◌, ◌↔◌, false, T, length}
 use mathlib.Core.List.{List, [], Memᴰ}
 use Rattle.meaning.specs.Lists.{keep, is_nil, Ascends}
 use Rattle.meaning.specs.Rows.{Row, Sizes, alike, within, begins, before}

@@ -6,8 +6,8 @@ use mathlib.Core.Path.{◌≡◌, sym, ◌∙◌}
 use mathlib.Core.Bool.{Bool, true, false}
 use mathlib.Core.List.{List, ◌∷◌}
 use lib.ListN.{length, get_or}
-use Rattle.meaning.specs.Rows.{Row, at}
-use Rattle.meaning.specs.Rules.{holds, met}
+use Rattle.meaning.specs.Rows.{Row}
+use Rattle.meaning.specs.Rules.{met}
 use Rattle.meaning.specs.Bytes.{rule_at, end_at, rules_at}
 use Rattle.literals.specs.Inner.{Askable}
 use Rattle.literals.proofs.laws.Places.{fit_known}

@@ -4,7 +4,7 @@ use native.Mathlib.Omega.{arith}
 use mathlib.Core.Path.{◌≡◌, sym, ap, ◌∙◌}
 use mathlib.Core.List.{List, ◌++◌, append_assoc}
 use lib.ListN.{length, get_or, drop}
-use Rattle.meaning.specs.Rules.{sign, bound, AllGood}
+use Rattle.meaning.specs.Rules.{AllGood}
 use Rattle.meaning.proofs.Literals.{literals_length, literal_parts, three_bytes}
 use Rattle.meaning.specs.Bytes.{encode_literals, encode_rule, encode_rules, literals_at, rule_at, end_at, rules_at, place_at}
 use Rattle.books.specs.declared.Got.TheVariants.{At}

@@ -8,7 +8,7 @@ use mathlib.Core.List.{List, ◌∷◌}
 use lib.ListN.{length, get_or, take, drop, replicate}
 use lib.Seq.{drop-cons}
 use borrow.Author.Tests.{lt-ltb, le-ltb, eq-eqb, ne_eqb}
-use Rattle.meaning.specs.Rows.{Row, Sizes, alike, at, Limited}
+use Rattle.meaning.specs.Rows.{Row, Sizes, alike, Limited}
 use Rattle.meaning.specs.Bytes.{rules_at}
 use Rattle.meaning.proofs.Limits.{lent}
 use Rattle.books.specs.declared.Fault.{Fault}

@@ -2,7 +2,7 @@
 use Prim.Native.Nat.{ℕ, ◌+◌, ◌≤◌, ◌<◌}
 use native.Mathlib.Omega.{arith}
 use mathlib.Core.Path.{◌≡◌, sym, ap, ◌∙◌}
-use mathlib.Core.List.{List, [], ◌∷◌, ◌++◌}
+use mathlib.Core.List.{[], ◌∷◌, ◌++◌}
 use lib.ListN.{length, length-append, get_or, get_or-append}
 use lib.Seq.{get_or-take, get_or-append_seam}
 use Rattle.listing.specs.declared.cursor.Cursor.{Cursor}

@@ -10,7 +10,7 @@ use lib.ListN.{length, get_or}
 use lib.Seq.{get_or-append_seam}
 use borrow.Author.Tests.{le-leb, lt-leb, lt-ltb, le-ltb, eq-eqb, ne_eqb, eqb-true, eqb-false}
 use Rattle.meaning.specs.Lists.{All}
-use Rattle.meaning.specs.Rows.{Row, at}
+use Rattle.meaning.specs.Rows.{Row}
 use Rattle.meaning.specs.Rules.{bound, holds, met, key, Ordered}
 use Rattle.meaning.specs.Bytes.{literal, literal_at, literals_at}
 use Rattle.meaning.specs.Listing.{decided}

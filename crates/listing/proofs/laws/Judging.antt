@@ -9,7 +9,7 @@ use lib.Dec.{T}
 use lib.ListN.{length, length-append, get_or}
 use lib.Seq.{append_snoc}
 use borrow.Author.Tests.{le-leb, le-ltb, not-false}
-use Rattle.meaning.specs.Rows.{Row, at}
+use Rattle.meaning.specs.Rows.{Row}
 use Rattle.meaning.specs.Rules.{Rule, met}
 use Rattle.meaning.specs.Bytes.{literals_at, rule_at}
 use Rattle.meaning.specs.Listing.{decided, dead}

@@ -2,12 +2,12 @@
 use Prim.Native.Nat.{ℕ, suc, ◌+◌, ◌-◌, ◌≤◌, ◌<◌}
 use native.Mathlib.Omega.{arith}
 use mathlib.Core.Path.{◌≡◌, refl, sym, ap, ◌∙◌}
-use mathlib.Core.Bool.{Bool, true, false, not}
+use mathlib.Core.Bool.{Bool, true, false}
 use mathlib.Core.List.{[], ◌∷◌, ◌++◌}
 use lib.Dec.{T, ltb, ltb→lt}
 use lib.ListN.{length, length-append, get_or, take, set, replicate, get_or-eq_default}
 use lib.Seq.{set-append_seam, append_snoc, take-suc, length-take-le}
-use borrow.Author.Tests.{lt-ltb, le-ltb, not-true, not-false}
+use borrow.Author.Tests.{lt-ltb, le-ltb}
 use Rattle.meaning.specs.Inner.{Sized}
 use Rattle.meaning.proofs.Tests.{yes_of, is_yes}
 use Rattle.meaning.specs.Rows.{Row, Sizes, alike, begins, limits}

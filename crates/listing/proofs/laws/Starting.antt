@@ -11,7 +11,7 @@ use lib.Seq.{get_or-take}
 use borrow.Author.Tests.{lt-ltb, le-ltb}
 use Rattle.meaning.specs.Rows.{Row, Sizes}
 use Rattle.meaning.specs.Rules.{setting, met}
-use Rattle.meaning.specs.Bytes.{literal_at, literals_at, end_at, rules_at, place_at, rules_in}
+use Rattle.meaning.specs.Bytes.{literal_at, literals_at, end_at, rules_at, rules_in}
 use Rattle.meaning.specs.Listing.{decided, dead}
 use Rattle.listing.specs.declared.cursor.Cursor.{Cursor}
 use Rattle.listing.specs.declared.steps.Walk.{Walk}

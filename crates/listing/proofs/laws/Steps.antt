@@ -1,18 +1,14 @@
 -- Steps: what a page has done so far, what a visit does to it, and visits one after the other.
-use Prim.Native.Nat.{ℕ, suc, ◌+◌, ◌*◌, ◌≤◌, ◌<◌}
-use native.Mathlib.Nat.{mul-le-mul_right}
-use native.Mathlib.Omega.{arith}
+use Prim.Native.Nat.{ℕ, ◌+◌, ◌≤◌, ◌<◌}
 use mathlib.Core.Path.{◌≡◌, refl}
 use mathlib.Core.Bool.{Bool, true, false, ◌&&◌}
 use mathlib.Core.List.{List, [], ◌∷◌, ◌++◌}
 use lib.Dec.{ltb}
 use lib.ListN.{length}
-use borrow.Author.Tests.{lt-ltb, le-ltb, eq-eqb, ne_eqb}
+use borrow.Author.Tests.{lt-ltb, le-ltb, ne_eqb}
 use Rattle.meaning.specs.Rows.{Row, Sizes}
-use Rattle.books.specs.Inner.{put_at}
 use Rattle.listing.specs.declared.cursor.Cursor.{Cursor}
 use Rattle.listing.specs.declared.steps.Walk.{Walk}
-use Rattle.listing.specs.Cursors.{prefix_of}
 use Rattle.listing.specs.Inner.{S, walk_of, move_of, goes_on, visit_of, runs, Ready}
 
 module _ (d : Row → Bool) (l fit budget : ℕ) where

@@ -15,7 +15,7 @@ use Rattle.listing.specs.declared.cursor.Cursor.{Cursor}
 use Rattle.listing.specs.declared.steps.Walk.{Walk}
 use Rattle.listing.specs.Cursors.{prefix_of}
 use Rattle.listing.specs.Inner.{Plain, push_of, forbidden, part, branch_of, from_of, S, walk_of, move_of, inward_of, goes_on, visit_of, runs, Ready, left_at, whole_of, Going, Allows, skip_of, Skips, Turns}
-use Rattle.listing.proofs.laws.Prefixes.{push_same, push_prefix, push_plain}
+use Rattle.listing.proofs.laws.Prefixes.{push_same, push_prefix}
 use Rattle.listing.proofs.laws.Course.{part_cons, stop_at, below_from}
 use Rattle.listing.proofs.laws.Steps.{runs_nil, runs_cons, runs_append, runs_shut, shut_rows, shut_steps, open_both, move_short, ready_same}
 

@@ -3,11 +3,11 @@ use Prim.Native.Nat.{ℕ, ◌+◌, ◌-◌, ◌≤◌, ◌<◌}
 use native.Mathlib.Nat.{sub-zero}
 use native.Mathlib.Omega.{arith}
 use mathlib.Core.Path.{◌≡◌, refl, sym, ap, ◌∙◌}
-use mathlib.Core.Bool.{Bool, true, false, not, ◌||◌, or-false, true≢false}
+use mathlib.Core.Bool.{Bool, true, false, ◌||◌, or-false, true≢false}
 use mathlib.Core.List.{List, [], ◌∷◌, ◌++◌, append-nil}
 use lib.Dec.{eqb}
 use lib.Seq.{append_snoc}
-use borrow.Author.Tests.{eq-eqb, ne_eqb, eqb-true, not-true, not-false}
+use borrow.Author.Tests.{eq-eqb, ne_eqb, eqb-true}
 use Rattle.meaning.specs.Rows.{Row}
 use Rattle.meaning.specs.Rules.{Rule}
 use Rattle.meaning.specs.Bytes.{rule_at, end_at, rules_at, place_at}

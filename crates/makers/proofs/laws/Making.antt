@@ -8,7 +8,7 @@ use mathlib.Core.Logic.{inl, inr}
 use lib.ListN.{length}
 use borrow.Author.Tests.{lt-ltb, le-ltb}
 use Rattle.meaning.specs.Lists.{each}
-use Rattle.meaning.specs.Rows.{Row, Sizes, at, row, rows_of}
+use Rattle.meaning.specs.Rows.{Row, Sizes, row, rows_of}
 use Rattle.meaning.specs.Rules.{Rule}
 use Rattle.meaning.specs.General.{split, fork, left_at, right_at, middle, row_rules}
 use Rattle.meaning.proofs.Tests.{lt_or_le}

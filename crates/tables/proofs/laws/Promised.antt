@@ -8,7 +8,7 @@ use mathlib.Core.Bool.{true, false, false≢true}
 use mathlib.Core.List.{List}
 use mathlib.Core.Option.{Option, none, some}
 use lib.ListN.{length}
-use Rattle.meaning.specs.Rows.{alike, at, ascending, all_within, sound, rows_of, limits, Limited}
+use Rattle.meaning.specs.Rows.{alike, ascending, all_within, sound, rows_of, limits, Limited}
 use Rattle.meaning.specs.Closed.{or_else, unless}
 use Rattle.meaning.proofs.Tests.{is, isnt, case, and_r}
 use Rattle.meaning.proofs.Alike.{alike_length}

@@ -1,7 +1,5 @@
 -- `clean`: a loop that passes zeros; what is left to test gives the whole.
 use native.Mathlib.Omega.{arith}
-use mathlib.Core.Path.{sym, ◌∙◌}
-use lib.ListN.{length-map}
 use borrow.Author.Rules.{rules}
 use Rattle.listing.proofs.laws.CursorTests.{cleaning_start, cleaning_on, cleaning_no, cleaning_end}
 use Rattle.listing.proofs.cursor.clean.Goals as goal

@@ -1,7 +1,5 @@
 -- `inside`: a loop that passes values below their sizes; what is left to test gives the whole.
 use native.Mathlib.Omega.{arith}
-use mathlib.Core.Path.{sym, ◌∙◌}
-use lib.ListN.{length-map}
 use borrow.Author.Rules.{rules}
 use Rattle.listing.proofs.laws.CursorTests.{fitting_start, fitting_on, fitting_no, fitting_end}
 use Rattle.listing.proofs.cursor.inside.Goals as goal

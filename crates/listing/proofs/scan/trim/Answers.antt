@@ -1,6 +1,5 @@
 use native.Mathlib.Omega.{arith}
 use Rattle.listing.proofs.laws.Trimming.{trims_none, trims_inside, trims_on}
-use borrow.Author.Tests.{not-false}
 use Rattle.listing.proofs.scan.trim.Goals as goal
 
 pub returns-then-rules-lt16 : goal.returns-then-rules-lt16

@@ -1,4 +1,3 @@
-use borrow.Author.Rules.{rules}
 use Rattle.listing.specs.Inner.{Trims}
 use Rattle.listing.proofs.scan.trim.Given as goal
 

@@ -1,4 +1,3 @@
-use borrow.Author.Rules.{rules}
 use Prim.Native.Nat.{◌-◌}
 use Rattle.listing.proofs.laws.Sorting.{Filling}
 use Rattle.listing.proofs.sorting.fill.Given as goal

@@ -4,7 +4,6 @@ use Prim.Native.Nat.{ℕ}
 use mathlib.Core.Path.{◌≡◌, refl}
 use lib.ListN.{length, replicate}
 use Rattle.listing.proofs.laws.Starting.{start_ready, start_open, start_on}
-use borrow.Author.Rules.{rules}
 use Rattle.listing.proofs.start.by_groups.Goals as goal
 
 pub fill-groups-requires : goal.fill-groups-requires

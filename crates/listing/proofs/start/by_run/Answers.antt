@@ -3,7 +3,6 @@ use native.Mathlib.Omega.{arith}
 use lib.ListN.{replicate}
 use Rattle.listing.proofs.laws.Starting.{start_ready, start_open, start_on}
 use Rattle.listing.proofs.laws.Sorting.{none_sorted}
-use borrow.Author.Rules.{rules}
 use Rattle.listing.proofs.start.by_run.Goals as goal
 
 pub resume-requires : goal.resume-requires

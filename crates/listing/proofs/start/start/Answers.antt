@@ -1,4 +1,3 @@
-use borrow.Author.Rules.{rules}
 use Rattle.listing.proofs.laws.Starting.{start_dead, start_live}
 use Rattle.listing.proofs.start.start.Goals as goal
 

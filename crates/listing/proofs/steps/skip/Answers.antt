@@ -1,5 +1,4 @@
 use native.Mathlib.Omega.{arith}
-use borrow.Author.Tests.{not-false}
 use Rattle.meaning.specs.Bytes.{rules_in}
 use Rattle.meaning.specs.Listing.{dead}
 use Rattle.listing.proofs.laws.Turns.{skips_none, skipping_start, skipping_on, skipping_end}

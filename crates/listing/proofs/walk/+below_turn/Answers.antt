@@ -1,6 +1,5 @@
 -- `below` and `turn`: the loop over the values of one level and its turn (laws/Turns), where the look says which are dead
 -- (laws/Resuming), and what stays true of the entries (laws/Holding).
-use borrow.Author.Rules.{rules}
 use native.Mathlib.Omega.{arith}
 use mathlib.Core.Path.{◌≡◌, refl, ◌∙◌}
 use Rattle.meaning.specs.Bytes.{rules_in}

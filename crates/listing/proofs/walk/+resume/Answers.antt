@@ -1,5 +1,4 @@
 -- `resume`: along the cursor's own values; each way out is a lemma of laws/Resuming, and what stays true of the entries is in laws/Holding.
-use borrow.Author.Rules.{rules}
 use native.Mathlib.Omega.{arith}
 use mathlib.Core.Path.{sym, ◌∙◌}
 use lib.ListN.{get_or}

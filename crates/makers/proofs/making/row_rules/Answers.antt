@@ -11,11 +11,10 @@ edges-lefts-requires c =
     (given_sides _ _ _ c.requires.0 _ _ _ _ _ (omega arith) c.row-values.ensures c.fork-left.ensures (omega arith), search rules)
 
 pub edges-rights-requires : goal.edges-rights-requires
-edges-rights-requires c =
-    (
-      given_sides _ _ _ c.requires.0 _ _ _ _ _ (omega arith) c.row-values.ensures c.fork-right.ensures (omega arith),
-      sent_countable _ _ _ _ _ _ _ _ _ _ c.edges-lefts.ensures c.requires.2 (omega arith),
-    )
+edges-rights-requires c = (
+  given_sides _ _ _ c.requires.0 _ _ _ _ _ (omega arith) c.row-values.ensures c.fork-right.ensures (omega arith),
+  sent_countable _ _ _ _ _ _ _ _ _ _ c.edges-lefts.ensures c.requires.2 (omega arith),
+)
 
 pub middle-requires : goal.middle-requires
 middle-requires c =

@@ -1,6 +1,5 @@
 -- `down`: sixteen bytes n, of which the first l are lent, are the sizes of edition 1.
 use native.Mathlib.Omega.{arith}
-use borrow.Author.Tests.{not-false}
 use Rattle.meaning.proofs.Limits.{limits_known, lent_length, lent_sized}
 use Rattle.listing.proofs.laws.Moves.{down_outside, down_lent}
 use Rattle.listing.proofs.cursor.Cursor.down.Goals as goal
