@@ -1,8 +1,8 @@
 //! Finds the proved archive, or has it made, and tells cargo to link it.
 //!
-//! The archive is `target/staticlib/librulebook_c.a` at the repository's root, which
-//! `rt staticlib rulebook_c` proves and writes. Where RULEBOOK_ARCHIVE names another, that one is
-//! linked and nothing is made; a relative path counts from the root.
+//! The archive is `crates/rulebook_c/out/librulebook_c.a`, which `rt lib` in that crate's folder
+//! proves and writes. Where RULEBOOK_ARCHIVE names another, that one is linked and nothing is made;
+//! a relative path counts from the repository's root.
 
 use std::env;
 use std::fs;
@@ -12,6 +12,9 @@ use std::process::{exit, Command};
 use std::time::SystemTime;
 
 const NAMED: &str = "RULEBOOK_ARCHIVE";
+
+/// What a crate's archive is made of; beside it `rt` keeps work of its own in `out`.
+const PARTS: [&str; 3] = ["src", "specs", "proofs"];
 
 fn main() {
     println!("cargo:rerun-if-env-changed={NAMED}");
@@ -42,8 +45,9 @@ fn named_archive(archive: PathBuf) -> PathBuf {
 
 /// The archive of this repository, made where it is missing or older than the crates it is of.
 fn own_archive(root: &Path) -> PathBuf {
-    let archive = root.join("target/staticlib/librulebook_c.a");
-    let sources = [root.join("crates"), root.join("crates.txt")];
+    let archive = root.join("crates/rulebook_c/out/librulebook_c.a");
+    let mut sources = parts(&root.join("crates"));
+    sources.push(root.join("crates.txt"));
     for source in &sources {
         println!("cargo:rerun-if-changed={}", source.display());
     }
@@ -52,6 +56,16 @@ fn own_archive(root: &Path) -> PathBuf {
         make(root, &archive);
     }
     archive
+}
+
+/// The folders of every crate that the prover reads.
+fn parts(crates: &Path) -> Vec<PathBuf> {
+    let entries = fs::read_dir(crates).into_iter().flatten();
+    entries
+        .filter_map(|entry| Some(entry.ok()?.path()))
+        .flat_map(|folder| PARTS.map(|part| folder.join(part)))
+        .filter(|part| part.is_dir())
+        .collect()
 }
 
 /// When the last changed file at or below a path was changed.
@@ -70,8 +84,8 @@ fn modified(path: &Path) -> Option<SystemTime> {
 
 fn make(root: &Path, archive: &Path) {
     let made = Command::new("rt")
-        .args(["staticlib", "rulebook_c"])
-        .current_dir(root)
+        .arg("lib")
+        .current_dir(root.join("crates/rulebook_c"))
         .output();
     match made {
         Ok(said) if said.status.success() && archive.is_file() => {}
@@ -79,7 +93,7 @@ fn make(root: &Path, archive: &Path) {
             // Not to standard output, where cargo would look for orders in it.
             eprint!("{}", String::from_utf8_lossy(&said.stdout));
             eprint!("{}", String::from_utf8_lossy(&said.stderr));
-            stop("'rt staticlib rulebook_c' did not make the archive; what it said stands above");
+            stop("'rt lib' did not make the archive of rulebook_c; what it said stands above");
         }
         Err(error) if error.kind() == io::ErrorKind::NotFound && archive.is_file() => {
             println!(
@@ -88,10 +102,9 @@ fn make(root: &Path, archive: &Path) {
             );
         }
         Err(error) if error.kind() == io::ErrorKind::NotFound => stop(
-            "there is no target/staticlib/librulebook_c.a at the repository's root, and the command \
-             'rt' of the Rattle kit, which proves the library and makes that archive, is not on the \
-             PATH. Put it there, or set RULEBOOK_ARCHIVE to an archive that \
-             'rt staticlib rulebook_c' made elsewhere",
+            "there is no crates/rulebook_c/out/librulebook_c.a, and the command 'rt' of the Rattle \
+             kit, which proves the library and makes that archive, is not on the PATH. Put it there, \
+             or set RULEBOOK_ARCHIVE to an archive that 'rt lib' made elsewhere",
         ),
         Err(error) => stop(&format!("'rt' could not be run: {error}")),
     }

@@ -55,6 +55,7 @@ fn all_last(sizes: &[u8], q: Cursor) -> bool
 }
 
 // Is no visited prefix left behind the last one visited? It is decided there: nothing is below it, and each of its values is the last.
+#[tactic(auto, using(crate::proofs::laws::Ending::ends_unmoved))]
 fn finished(sizes: &[u8], w: Walk) -> bool
     requires { Plain w.last × (w.last.len ≤ length sizes.now) }
     ensures { result ≡ finished_of sizes.now w }

@@ -42,6 +42,7 @@ fn make_alike(n: usize, l: usize, family: usize, table: &[u8], room: &mut [u8]) 
 }
 
 // The book of a sound table, or the first of refusals 6 to 8.
+#[tactic(auto, using(crate::proofs::laws::Refusals::closed_family))]
 fn make_checked(n: usize, l: usize, family: usize, table: &[u8], room: &mut [u8]) -> Made
     requires { Passes n l table.now (length table.now / l) }
     ensures { ◌≡◌ {A = Made × List ℕ} (result, room.new) (closed_of n l family table.now room.old) }

@@ -71,6 +71,7 @@ fn check_rows(sizes: &[u8], table: &[u8]) -> Checked
 }
 
 // Refusals 2 to 5, over a size for each setting.
+#[tactic(auto, using(crate::proofs::laws::Refusals::sizes_many))]
 pub fn check_sizes(sizes: &[u8], table: &[u8]) -> Checked
     requires { 0 < length sizes.now }
     ensures { result ≡ answer (length table.now / length sizes.now) (flaw_of sizes.now table.now) }

@@ -3,9 +3,6 @@ use Rattle.makers.proofs.laws.Refusals.{closed_family, closed_pair, closed_tripl
 use Rattle.tables.proofs.laws.Promised.{passes_ready}
 use Rattle.makers.proofs.make_checked.Goals as goal
 
-pub returns-then-family-gt3 : goal.returns-then-family-gt3
-returns-then-family-gt3 c = search closed_family
-
 pub open_rows-requires : goal.open_rows-requires
 open_rows-requires c = search passes_ready
 

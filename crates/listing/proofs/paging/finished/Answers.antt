@@ -3,9 +3,6 @@ use native.Mathlib.Omega.{arith}
 use Rattle.listing.proofs.laws.Ending.{ends_unmoved, ends_full, ends_dead, ends_live}
 use Rattle.listing.proofs.paging.finished.Goals as goal
 
-pub returns-then-w-eq0 : goal.returns-then-w-eq0
-returns-then-w-eq0 c = search (ends_unmoved, arith)
-
 pub returns-then-q-sizes : goal.returns-then-q-sizes
 returns-then-q-sizes c = search (ends_full, arith)
 

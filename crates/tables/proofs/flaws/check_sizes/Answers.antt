@@ -6,8 +6,5 @@ use Rattle.tables.proofs.flaws.check_sizes.Goals as goal
 pub returns-then-table-l-gt0 : goal.returns-then-table-l-gt0
 returns-then-table-l-gt0 c = search (sizes_uneven, arith)
 
-pub returns-then-rows-gt512 : goal.returns-then-rows-gt512
-returns-then-rows-gt512 c = search (sizes_many, arith)
-
 pub returns : goal.returns
 returns c = search (sizes_rows, arith)
