@@ -102,7 +102,8 @@ pub fn rules(sizes: &[u8], family: usize, table: &[u8], room: &mut [u8], tally: 
     ensures { SentAll sizes.now table.now family tally room.old result room.new }
 {
     let rows = table.len() / sizes.len();
-    if rows == 0 {
+    let none = rows == 0;
+    if none {
         return send(empty(), room, tally);
     }
     row_by_row(sizes, rows, family, table, room, tally)

@@ -37,11 +37,13 @@ test_determined book x = alone (tested_of book x)
 pub rule_part_determined : (book : List ℕ) (number : ℕ) (r s : RulePart) → r ≡ part_where book number → s ≡ part_where book number → r ≡ s
 rule_part_determined book number = alone (part_where book number)
 
--- a rule by its number: the bytes of the part, and where it stands in what was lent; only its ghost name is fresh
-pub rule_determined : (lent r s : Bor (List ℕ)) (p : ℕ) (bytes : List ℕ) → IsPart lent r p bytes → IsPart lent s p bytes
-    → (r.now ≡ s.now) × (r.ref_ptr.0 ≡ s.ref_ptr.0) × (r.ref_ptr.1 ≡ s.ref_ptr.1)
+-- a rule by its number: the part as a value, its bytes and where it stands in what was lent
+pub rule_determined : (lent r s : Bor (List ℕ)) (p : ℕ) (bytes : List ℕ) → IsPart lent r p bytes → IsPart lent s p bytes → r ≡ s
 rule_determined lent r s p bytes a b =
-    (alone bytes _ _ a.bytes_are b.bytes_are, alone lent.ref_ptr.0 _ _ a.block b.block, alone _ _ _ a.offset b.offset)
+    let block : r.ref_ptr.0 ≡ s.ref_ptr.0 = alone lent.ref_ptr.0 _ _ a.block b.block in
+    let offset : r.ref_ptr.1 ≡ s.ref_ptr.1 = alone _ _ _ a.offset b.offset in
+    let held : r.now ≡ s.now = alone bytes _ _ a.bytes_are b.bytes_are in
+    λ i. record { ref_ptr = (block i, offset i); now = held i }
 
 pub beginning_determined : (r s : Cursor) → r ≡ cursor_of [] → s ≡ cursor_of [] → r ≡ s
 beginning_determined = alone (cursor_of [])

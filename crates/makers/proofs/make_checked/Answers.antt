@@ -1,5 +1,5 @@
 -- `makers::make_checked` meets its contract: refusals 6 and 7 come in their order, then the book or refusal 8.
-use Rattle.makers.proofs.laws.Refusals.{closed_family, closed_pair, closed_triple, closed_book}
+use Rattle.makers.proofs.laws.Refusals.{closed_pair, closed_triple, closed_book}
 use Rattle.tables.proofs.laws.Promised.{passes_ready}
 use Rattle.makers.proofs.make_checked.Goals as goal
 

@@ -1,6 +1,6 @@
 -- `finished`: four ways out, four lemmas of specs/Ending.
 use native.Mathlib.Omega.{arith}
-use Rattle.listing.proofs.laws.Ending.{ends_unmoved, ends_full, ends_dead, ends_live}
+use Rattle.listing.proofs.laws.Ending.{ends_full, ends_dead, ends_live}
 use Rattle.listing.proofs.paging.finished.Goals as goal
 
 pub returns-then-q-sizes : goal.returns-then-q-sizes

@@ -2,5 +2,5 @@
 use Rattle.makers.proofs.laws.AllRows.{rows_none}
 use Rattle.makers.proofs.making.rules.Goals as goal
 
-pub returns-then-rows-eq0 : goal.returns-then-rows-eq0
-returns-then-rows-eq0 c = search rows_none
+pub returns-then-none : goal.returns-then-none
+returns-then-none c = search rows_none

@@ -1,6 +1,6 @@
 -- Each way out is a lemma of Refusals.
 use native.Mathlib.Omega.{arith}
-use Rattle.tables.proofs.laws.Refusals.{sizes_uneven, sizes_many, sizes_rows}
+use Rattle.tables.proofs.laws.Refusals.{sizes_uneven, sizes_rows}
 use Rattle.tables.proofs.flaws.check_sizes.Goals as goal
 
 pub returns-then-table-l-gt0 : goal.returns-then-table-l-gt0
