@@ -33,7 +33,7 @@ left_at ns m i = opt (ltb 0 (at m i)) (earlier ns m i ++ (at_least i (at m i) �
 unfoldable pub right_at : Sizes → Row → ℕ → List Rule
 right_at ns m i = opt (ltb (at m i + 1) (at ns i)) (earlier ns m i ++ (at_most i (at m i) ∷ []))
 
--- middle: if m at i plus 1 is below m' at i, differs from m earlier, or at most m's value at i, or at least m''s
+-- middle: if m at i plus 1 is below m' at i, differs from m earlier, or at most m's value at i, or at least that of m'
 unfoldable pub mid_at : Sizes → Row → Row → ℕ → List Rule
 mid_at ns m m' i = opt (ltb (at m i + 1) (at m' i)) (earlier ns m i ++ (at_most i (at m i) ∷ at_least i (at m' i) ∷ []))
 
