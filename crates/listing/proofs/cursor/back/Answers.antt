@@ -1,4 +1,4 @@
--- `back`: each way out is a lemma of specs/Moves.
+-- `back`: each way out is a lemma of laws/Moves.
 use native.Mathlib.Omega.{arith}
 use Rattle.listing.proofs.laws.Moves.{move_bad, up_start, up_on, last_known}
 use Rattle.listing.proofs.cursor.back.Goals as goal

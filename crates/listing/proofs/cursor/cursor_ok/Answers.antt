@@ -1,4 +1,4 @@
--- `cursor_ok`: three tests of a cursor, three lemmas of specs/CursorTests.
+-- `cursor_ok`: three tests of a cursor, three lemmas of laws/CursorTests.
 use native.Mathlib.Omega.{arith}
 use Rattle.listing.proofs.laws.CursorTests.{tested_long, tested_unfit, tested_clean}
 use Rattle.listing.proofs.cursor.cursor_ok.Goals as goal

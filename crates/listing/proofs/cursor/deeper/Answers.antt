@@ -1,4 +1,4 @@
--- `deeper`: each way out is a lemma of specs/Moves.
+-- `deeper`: each way out is a lemma of laws/Moves.
 use native.Mathlib.Omega.{arith}
 use Rattle.listing.proofs.laws.Moves.{move_bad, down_fits, down_full, down_on}
 use Rattle.listing.proofs.cursor.deeper.Goals as goal

@@ -1,4 +1,4 @@
--- `onward`: each way out is a lemma of specs/Moves.
+-- `onward`: each way out is a lemma of laws/Moves.
 use native.Mathlib.Omega.{arith}
 use Rattle.listing.proofs.laws.Moves.{move_bad, along_start, along_last, along_on, last_known}
 use Rattle.listing.proofs.cursor.onward.Goals as goal

@@ -1,4 +1,4 @@
--- `all_last`: what is left to test gives the whole; its invariant is `Lasting` of specs/Ending.
+-- `all_last`: what is left to test gives the whole; its invariant is `Lasting` of laws/Ending.
 use native.Mathlib.Omega.{arith}
 use Rattle.listing.proofs.laws.Ending.{lasting_start, lasting_on, lasting_no, lasting_end}
 use Rattle.listing.proofs.paging.all_last.Goals as goal

@@ -1,4 +1,4 @@
--- `all_last`: what is left to test gives the whole; its invariant is `Lasting` of specs/Ending.
+-- `all_last`: what is left to test gives the whole; its invariant is `Lasting` of laws/Ending.
 use Prim.Native.Nat.{◌-◌}
 use Rattle.listing.proofs.laws.Ending.{Lasting}
 use Rattle.listing.proofs.paging.all_last.Given as goal

@@ -1,4 +1,4 @@
--- `finished`: four ways out, four lemmas of specs/Ending.
+-- `finished`: four ways out, four lemmas of laws/Ending.
 use native.Mathlib.Omega.{arith}
 use Rattle.listing.proofs.laws.Ending.{ends_full, ends_dead, ends_live}
 use Rattle.listing.proofs.paging.finished.Goals as goal

@@ -1,4 +1,4 @@
--- `listed`: the walk's contract, turned into the page of the statement by specs/Paging.
+-- `listed`: the walk's contract, turned into the page of the statement by laws/Paging.
 use Rattle.listing.proofs.laws.Paging.{listed_resumes, listed_last, listed_page}
 use Rattle.listing.proofs.paging.listed.Goals as goal
 

@@ -1,4 +1,4 @@
--- `page`: by what reading the book gives; each way out is a lemma of specs/Refusing.
+-- `page`: by what reading the book gives; each way out is a lemma of laws/Refusing.
 use native.Mathlib.Omega.{arith}
 use Rattle.listing.proofs.laws.Refusing.{page_unread, page_numbers, page_read}
 use Rattle.listing.proofs.paging.page.Goals as goal

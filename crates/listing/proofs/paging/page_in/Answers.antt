@@ -1,4 +1,4 @@
--- `page_in`: the refusals in their order, then the page; each way out is a lemma of specs/Refusing.
+-- `page_in`: the refusals in their order, then the page; each way out is a lemma of laws/Refusing.
 use native.Mathlib.Omega.{arith}
 use Rattle.meaning.specs.Bytes.{rules_in}
 use Rattle.meaning.specs.Listing.{dead}

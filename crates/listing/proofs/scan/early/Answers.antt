@@ -1,4 +1,4 @@
--- `early`: what is left from here gives the whole; each way out is a lemma of specs/Early.
+-- `early`: what is left from here gives the whole; each way out is a lemma of laws/Early.
 use native.Mathlib.Omega.{arith}
 use Rattle.listing.proofs.laws.Early.{passing_start, passing_later, passing_holds, passing_on, passing_end}
 use Rattle.listing.proofs.scan.early.Goals as goal

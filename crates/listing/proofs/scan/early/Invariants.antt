@@ -1,4 +1,4 @@
--- `early`: what is left from here gives the whole; each way out is a lemma of specs/Early.
+-- `early`: what is left from here gives the whole; each way out is a lemma of laws/Early.
 use Rattle.listing.proofs.laws.Early.{Passing}
 use lib.ListN.{take}
 use Rattle.listing.proofs.scan.early.Given as goal

@@ -1,4 +1,4 @@
--- `interval`: four ways out, four lemmas of specs/Interval.
+-- `interval`: four ways out, four lemmas of laws/Interval.
 use native.Mathlib.Omega.{arith}
 use Rattle.listing.proofs.laws.Interval.{interval_none, interval_least, interval_most, interval_both}
 use Rattle.listing.proofs.scan.interval.Goals as goal

@@ -1,4 +1,4 @@
--- `scan`: the loop judges one rule after another; its invariant is `Scanning` of specs/Windows.
+-- `scan`: the loop judges one rule after another; its invariant is `Scanning` of laws/Windows.
 use native.Mathlib.Omega.{arith}
 use Rattle.listing.proofs.laws.Windows.{scanning_start, scanning_on, scanning_next, scanning_end}
 use Rattle.listing.proofs.scan.scan.Goals as goal

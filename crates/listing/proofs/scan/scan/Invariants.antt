@@ -1,4 +1,4 @@
--- `scan`: the loop judges one rule after another; its invariant is `Scanning` of specs/Windows.
+-- `scan`: the loop judges one rule after another; its invariant is `Scanning` of laws/Windows.
 use Prim.Native.Nat.{◌-◌}
 use Rattle.listing.specs.Cursors.{prefix_of}
 use Rattle.listing.proofs.laws.Windows.{Scanning}

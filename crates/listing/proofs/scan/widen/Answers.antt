@@ -1,4 +1,4 @@
--- `widen`: three ways out, three lemmas of specs/Windows.
+-- `widen`: three ways out, three lemmas of laws/Windows.
 use native.Mathlib.Omega.{arith}
 use Rattle.listing.proofs.laws.Windows.{widen_not, widen_first, widen_more}
 use Rattle.listing.proofs.scan.widen.Goals as goal

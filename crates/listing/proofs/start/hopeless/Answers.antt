@@ -1,4 +1,4 @@
--- `hopeless`: what is left from here gives the whole; each way out is a lemma of specs/Starting.
+-- `hopeless`: what is left from here gives the whole; each way out is a lemma of laws/Starting.
 use native.Mathlib.Omega.{arith}
 use Rattle.listing.proofs.laws.Starting.{seeking_start, seeking_end, seeking_inside, seeking_yes, seeking_on}
 use Rattle.listing.proofs.start.hopeless.Goals as goal

@@ -1,4 +1,4 @@
--- `hopeless`: what is left from here gives the whole; each way out is a lemma of specs/Starting.
+-- `hopeless`: what is left from here gives the whole; each way out is a lemma of laws/Starting.
 use Prim.Native.Nat.{◌-◌}
 use Rattle.listing.proofs.laws.Starting.{Seeking}
 use Rattle.listing.proofs.start.hopeless.Given as goal
