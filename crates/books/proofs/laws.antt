@@ -7,7 +7,7 @@ pub mod Whole
 pub mod Holds
 pub mod Accepted
 pub mod Part
-pub mod Head
+pub mod Lent
 pub mod Put
 pub mod Records
 pub mod Family

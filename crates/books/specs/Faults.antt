@@ -1,9 +1,8 @@
 -- The answers in numbers: document 01's number for each case, and the values that it gives. 0 is no refusal.
-use Rattle.std.specs.Prelude.{ℕ, List, [], ◌∷◌}
+use Rattle.std.specs.Prelude.{ℕ, List, [], ◌∷◌, Result, Ok, Err}
 use Rattle.books.specs.declared.Fault.{Fault}
 use Rattle.books.specs.declared.Fault.TheVariants.{Cut, Mark, Field, Order, Idle, Family, Trailing}
-use Rattle.books.specs.declared.Reading.{Reading}
-use Rattle.books.specs.declared.Reading.TheVariants.{Book, Faulty}
+use Rattle.books.specs.declared.Head.{Head}
 
 abbrev pub number_of : Fault → ℕ
 number_of (Cut p) = 9
@@ -24,10 +23,10 @@ values_of (Idle p) = p ∷ []
 values_of (Family p) = p ∷ []
 values_of (Trailing p) = p ∷ []
 
-abbrev pub reading_number : Reading → ℕ
-reading_number (Book n l family rules) = 0
-reading_number (Faulty f) = number_of f
+abbrev pub reading_number : Result Head Fault → ℕ
+reading_number (Ok h) = 0
+reading_number (Err f) = number_of f
 
-abbrev pub reading_values : Reading → List ℕ
-reading_values (Book n l family rules) = n ∷ l ∷ family ∷ rules ∷ []
-reading_values (Faulty f) = values_of f
+abbrev pub reading_values : Result Head Fault → List ℕ
+reading_values (Ok h) = h.n ∷ h.l ∷ h.family ∷ h.rules ∷ []
+reading_values (Err f) = values_of f

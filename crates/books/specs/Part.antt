@@ -1,16 +1,16 @@
 -- A rule of a book by its number, as the part of the lent bytes that holds its record.
-use Rattle.std.specs.Prelude.{ℕ, ◌+◌, ◌-◌, ◌≡◌, cond, List, [], ltb, length, take, drop}
+use Rattle.std.specs.Prelude.{ℕ, ◌+◌, ◌-◌, ◌≡◌, cond, List, [], ltb, length, take, drop, Result, Ok, Err}
 use Rattle.std.specs.Borrow.{Bor}
 use Rattle.meaning.specs.Bytes.{end_at, place_at}
 use Rattle.books.specs.declared.part.RulePart.{RulePart}
-use Rattle.books.specs.declared.Reading.{Reading}
-use Rattle.books.specs.declared.Reading.TheVariants.{Book, Faulty}
+use Rattle.books.specs.declared.Fault.{Fault}
+use Rattle.books.specs.declared.Head.{Head}
 use Rattle.books.specs.Format.{read_of}
 
 -- how many rules there are to ask for: none in a faulty book
-abbrev pub count_of : Reading → ℕ
-count_of (Book n l family rules) = rules
-count_of (Faulty f) = 0
+abbrev pub count_of : Result Head Fault → ℕ
+count_of (Ok h) = h.rules
+count_of (Err f) = 0
 
 -- the record of the rule whose mark is at place p
 abbrev pub record_at : List ℕ → ℕ → List ℕ

@@ -1,12 +1,12 @@
 -- Testing a combination: book faults, its length, its values, then the first rule not met.
-use Rattle.std.specs.Prelude.{ℕ, suc, cond, List, [], ◌∷◌, ltb, eqb, length}
+use Rattle.std.specs.Prelude.{ℕ, suc, cond, List, [], ◌∷◌, ltb, eqb, length, Option, Some, None, Result, Ok, Err}
 use Rattle.meaning.specs.Rows.{Row, Sizes, alike}
 use Rattle.meaning.specs.Rules.{Rule, met}
 use Rattle.meaning.specs.Bytes.{rules_in}
-use Rattle.books.specs.declared.Reading.{Reading}
-use Rattle.books.specs.declared.Reading.TheVariants.{Book, Faulty}
-use Rattle.books.specs.declared.Tested.{Tested}
-use Rattle.books.specs.declared.Tested.TheVariants.{Permitted, NotMet, Length, Value, Faulty as Refused}
+use Rattle.books.specs.declared.Fault.{Fault}
+use Rattle.books.specs.declared.Head.{Head}
+use Rattle.books.specs.declared.Untested.{Untested}
+use Rattle.books.specs.declared.Untested.TheVariants.{Faulty, Length, Value}
 use Rattle.books.specs.Format.{read_of}
 
 -- the number of the first rule not met; the number of rules, where all are met
@@ -20,17 +20,28 @@ first_over ns [] = 0
 first_over [] (v ∷ x) = 0
 first_over (n ∷ ns) (v ∷ x) = cond (ltb v n) (suc (first_over ns x)) 0
 
+-- the answers to a test: permitted, or the number of the first rule that is not met
+abbrev pub Permitted : Result (Option ℕ) Untested
+Permitted = Ok None
+
+abbrev pub NotMet : ℕ → Result (Option ℕ) Untested
+NotMet k = Ok (Some k)
+
+-- the place that a search came to, below c; none, where it came to c
+abbrev pub found : ℕ → ℕ → Option ℕ
+found k c = cond (ltb k c) (Some k) None
+
 -- a combination asked of rules over these sizes
-unfoldable pub judge_of : Sizes → List Rule → Row → Tested
+unfoldable pub judge_of : Sizes → List Rule → Row → Result (Option ℕ) Untested
 judge_of ns rs x =
     cond (eqb (length x) (length ns))
-    (cond (ltb (first_over ns x) (length x)) (Value (first_over ns x))
-    (cond (ltb (first_unmet rs x) (length rs)) (NotMet (first_unmet rs x)) Permitted))
-    Length
+    (cond (ltb (first_over ns x) (length x)) (Err (Value (first_over ns x)))
+    (Ok (found (first_unmet rs x) (length rs))))
+    (Err Length)
 
-abbrev pub judge_read : List ℕ → Row → Reading → Tested
-judge_read b x (Book n l family rules) = judge_of (alike n l) (rules_in b) x
-judge_read b x (Faulty f) = Refused f
+abbrev pub judge_read : List ℕ → Row → Result Head Fault → Result (Option ℕ) Untested
+judge_read b x (Ok h) = judge_of (alike h.n h.l) (rules_in b) x
+judge_read b x (Err f) = Err (Faulty f)
 
-unfoldable pub tested_of : List ℕ → Row → Tested
+unfoldable pub tested_of : List ℕ → Row → Result (Option ℕ) Untested
 tested_of b x = judge_read b x (read_of b)

@@ -1,6 +1,9 @@
 // The book in bytes: reading it, a rule as a part of it, testing a combination against it, and writing its records.
 #![tactic(auto)]
 
+ghost use Rattle.std.specs.Prelude.{◌≡◌};
+ghost use Rattle.books.specs.declared.Untested.TheVariants.{Faulty};
+
 mod fields;
 mod literal_fields;
 mod part;
@@ -15,7 +18,7 @@ pub use records::{put_end, put_head, put_rule};
 pub use tester::test;
 
 // What is wrong with a book, and at which place: refusals 9 to 15.
-#[derive(Clone, Copy)]
+#[derive(Clone, Copy, Debug, PartialEq, Eq)]
 pub enum Fault {
     Cut(usize),
     Mark(usize),
@@ -26,32 +29,28 @@ pub enum Fault {
     Trailing(usize),
 }
 
-// What each step of the reader gives: a number, or the first fault.
-#[derive(Clone, Copy)]
-pub enum Got {
-    At(usize),
-    No(Fault),
+// The head of a book: n values a setting, l settings, the family, and the number of rules.
+#[derive(Clone, Copy, Debug, PartialEq, Eq)]
+pub struct Head {
+    pub n: usize,
+    pub l: usize,
+    pub family: usize,
+    pub rules: usize,
 }
 
-// What reading a book gives: its head, or the first fault.
-#[derive(Clone, Copy)]
-pub enum Reading {
-    Book {
-        n: usize,
-        l: usize,
-        family: usize,
-        rules: usize,
-    },
-    Faulty(Fault),
-}
-
-// What testing a combination gives: permitted, the number of the first rule not met, or a refusal.
+// Why a combination was not tested: the book has a fault, or a refusal of the combination.
 // Length is 16, the combination not l long; Value is 17, with the place of its first value that is n or more.
-#[derive(Clone, Copy)]
-pub enum Tested {
-    Permitted,
-    NotMet(usize),
+#[derive(Clone, Copy, Debug, PartialEq, Eq)]
+pub enum Untested {
     Faulty(Fault),
     Length,
     Value(usize),
+}
+
+impl From<Fault> for Untested {
+    ghost from_gives = { λ f u. u ≡ Faulty f };
+
+    fn from(fault: Fault) -> Untested {
+        Untested::Faulty(fault)
+    }
 }

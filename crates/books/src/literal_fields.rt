@@ -1,88 +1,62 @@
 // The literals of a rule: each one's three fields, then its order. `from` is the place of the rule's mark.
-ghost use Rattle.std.specs.Prelude.{◌≡◌, ◌+◌, ◌≤◌, ◌<◌, length};
+ghost use Rattle.std.specs.Prelude.{◌≡◌, ◌+◌, ◌*◌, ◌≤◌, ◌<◌, length, IfOk};
 ghost use Rattle.meaning.specs.Rules.{top_of};
-ghost use Rattle.meaning.specs.Inner.{Sized};
-ghost use Rattle.books.specs.Format.{order_of, bound_of, literal_of, literals_of};
+ghost use Rattle.books.specs.Format.{order_of, literal_of, literals_of};
 
+use crate::Fault;
 use crate::fields::field;
-use crate::{Fault, Got};
+use crate::rules::Reader;
 
 // The number that a bound of sign g stays below, on a setting of n values.
+#[tactic(auto, unfolding(meaning::specs::Rules::top_of))]
 fn top(n: u8, g: usize) -> usize
     requires { 0 < n }
     ensures { result ≡ top_of n g }
 {
-    if g == 0 {
-        return (n as usize) - 1;
-    }
-    n as usize
+    let n = usize::from(n);
+    if g == 0 { n - 1 } else { n }
 }
 
 // The key of setting i and sign g is to be at least `low`. Gives the least key that may follow.
-fn ordered(i: usize, g: usize, low: usize, p: usize) -> Got
+#[tactic(auto, unfolding(crate::specs::Format::order_of))]
+fn ordered(i: usize, g: usize, low: usize, p: usize) -> Result<usize, Fault>
     requires { (i < 16) × (g < 2) }
     ensures { result ≡ order_of i g low p }
 {
     let key = 2 * i + g;
     if key < low {
-        return Got::No(Fault::Order(p));
+        return Err(Fault::Order(p));
     }
-    Got::At(key + 1)
+    Ok(key + 1)
 }
 
-// The bound of the literal at p, of setting i and sign g, then its order. Gives the least key that may follow.
-fn bound(book: &[u8], sizes: &[u8], from: usize, low: usize, p: usize, i: usize, g: usize) -> Got
-    requires { Sized sizes.now × (i < length sizes.now) × (g < 2) × (p ≤ length book.now) }
-    ensures { result ≡ bound_of book.now sizes.now from low p i g }
-{
-    let t = top(sizes[i], g);
-    let d = match field(book, from, p + 2, g, t) {
-        Got::At(v) => v,
-        Got::No(f) => {
-            return Got::No(f);
-        }
-    };
-    ordered(i, g, low, p)
-}
-
-// The literal at p, whose key is to be at least `low`. Gives the least key that may follow.
-fn literal(book: &[u8], sizes: &[u8], from: usize, low: usize, p: usize) -> Got
-    requires { Sized sizes.now × (p ≤ length book.now) }
-    ensures { result ≡ literal_of book.now sizes.now from low p }
-{
-    let i = match field(book, from, p, 0, sizes.len()) {
-        Got::At(v) => v,
-        Got::No(f) => {
-            return Got::No(f);
-        }
-    };
-    let g = match field(book, from, p + 1, 0, 2) {
-        Got::At(v) => v,
-        Got::No(f) => {
-            return Got::No(f);
-        }
-    };
-    bound(book, sizes, from, low, p, i, g)
-}
-
-// The c literals of the rule. Gives the place after them.
-pub fn literals(book: &[u8], sizes: &[u8], from: usize, c: usize) -> Got
-    requires { Sized sizes.now × (from + 3 ≤ length book.now) }
-    ensures { result ≡ literals_of book.now sizes.now from 0 (from + 3) c }
-{
-    let mut low: usize = 0;
-    let mut p = from + 3;
-    let mut i: usize = 0;
-    while i < c {
-        let next = match literal(book, sizes, from, low, p) {
-            Got::At(v) => v,
-            Got::No(f) => {
-                return Got::No(f);
-            }
-        };
-        low = next;
-        p += 3;
-        i += 1;
+impl Reader<'_> {
+    // The literal at p, whose key is to be at least `low`: its setting, sign and bound, then its order. Gives the least key that may follow.
+    #[tactic(auto, unfolding(crate::specs::Format::literal_of, crate::specs::Format::bound_of))]
+    fn literal(&self, from: usize, low: usize, p: usize) -> Result<usize, Fault>
+        requires { p ≤ length self.now.book.now }
+        ensures value { result ≡ literal_of self.now.book.now self.now.sizes.now from low p }
+        ensures inside { IfOk result (λ v. p + 3 ≤ length self.now.book.now) }
+    {
+        let i = field(self.book, from, p, 0..self.sizes.len())?;
+        let g = field(self.book, from, p + 1, 0..2)?;
+        field(self.book, from, p + 2, g..top(self.sizes[i], g))?;
+        ordered(i, g, low, p)
     }
-    Got::At(p)
+
+    // The c literals of the rule. Gives the place after them.
+    #[tactic(auto, using(crate::proofs::laws::Literals::literals_loop))]
+    pub fn literals(&self, from: usize, c: usize) -> Result<usize, Fault>
+        requires { from + 3 ≤ length self.now.book.now }
+        ensures value { result ≡ literals_of self.now.book.now self.now.sizes.now from 0 (from + 3) c }
+        ensures inside { IfOk result (λ v. (v ≡ from + 3 + 3 * c) × (v ≤ length self.now.book.now)) }
+    {
+        let mut low = 0;
+        let mut p = from + 3;
+        for _i in 0..c {
+            low = self.literal(from, low, p)?;
+            p += 3;
+        }
+        Ok(p)
+    }
 }

@@ -4,7 +4,6 @@ ghost use Rattle.books.specs.Format.{read_of};
 ghost use Rattle.books.specs.Part.{count_of, part_of, part_place, part_where, IsPart};
 ghost use Rattle.books.specs.Inner.{Placed};
 
-use crate::Reading;
 use crate::reader::read;
 use literals::rule_end;
 
@@ -20,15 +19,7 @@ pub struct RulePart {
 fn count(book: &[u8]) -> usize
     ensures { result ≡ count_of (read_of book.now) }
 {
-    match read(book) {
-        Reading::Book {
-            n: _,
-            l: _,
-            family: _,
-            rules,
-        } => rules,
-        Reading::Faulty(_) => 0,
-    }
+    read(book).map_or(0, |head| head.rules)
 }
 
 // The place of the rule's mark.
@@ -36,27 +27,24 @@ fn place(book: &[u8], number: usize) -> usize
     requires { number < count_of (read_of book.now) }
     ensures { Placed book.now number result }
 {
-    let mut p: usize = 7;
-    let mut i: usize = 0;
-    while i < number {
+    let mut p = 7;
+    for _i in 0..number {
         p = rule_end(book, p);
-        i += 1;
     }
     p
 }
 
 // Where the rule's record stands in the book: its place and its length.
 // The end of the book and 0, for a number that no rule has or a book with a fault.
+#[tactic(auto, using(crate::proofs::laws::Part::where_ways))]
 pub fn rule_part(book: &[u8], number: usize) -> RulePart
     ensures { result ≡ part_where book.now number }
 {
-    let rules = count(book);
-    if number < rules {
+    if number < count(book) {
         let start = place(book, number);
-        let end = rule_end(book, start);
         return RulePart {
             place: start,
-            length: end - start,
+            length: rule_end(book, start) - start,
         };
     }
     RulePart {
@@ -67,11 +55,10 @@ pub fn rule_part(book: &[u8], number: usize) -> RulePart
 
 // The rule's mark, count and literals, as that part of the book.
 // The empty part at the end of the book, for a number that no rule has or a book with a fault.
+#[tactic(auto, using(crate::proofs::laws::Part::part_whole))]
 pub fn rule<'a>(book: &'a [u8], number: usize) -> &'a [u8]
     ensures { IsPart book.entry result (part_place book.now number) (part_of book.now number) }
 {
     let part = rule_part(book, number);
-    let start = part.place;
-    let end = start + part.length;
-    &book[start..end]
+    &book[part.place..part.place + part.length]
 }

@@ -1,92 +1,57 @@
 // Reading a book: the head, the rules, the end, and nothing more.
-ghost use Rattle.std.specs.Prelude.{◌≡◌, ◌≤◌, length};
-ghost use Rattle.meaning.specs.Rows.{alike, Limited};
-ghost use Rattle.books.specs.Format.{rules_of, tail_of, rest_of, read_of};
+ghost use Rattle.std.specs.Prelude.{◌≡◌, ◌≤◌, ◌<◌, length, replicate};
+ghost use Rattle.meaning.specs.Rows.{Limited};
+ghost use Rattle.books.specs.Format.{tail_of, read_of};
 
 use crate::fields::{field, mark, word};
-use crate::rules::rules;
-use crate::{Fault, Got, Reading};
-use literals::narrow;
+use crate::rules::Reader;
+use crate::{Fault, Head};
 
-// The rules, over l settings of n values each.
-fn rules_alike(book: &[u8], n: usize, l: usize, family: usize, count: usize) -> Got
-    requires { Limited n l × (7 ≤ length book.now) }
-    ensures { result ≡ rules_of book.now (alike n l) family 7 count }
+// Sixteen sizes, all n: the first l of them are the sizes of a book over l settings of n values each.
+pub fn sixteen(n: usize) -> [u8; 16]
+    requires { n < 256 }
+    ensures { result ≡ replicate 16 n }
 {
-    let space = [narrow(n); 16];
-    let sizes = &space[..l];
-    rules(book, sizes, family, 7, count)
+    [n as u8; 16]
 }
 
-// After the head: the rules, the end, and nothing more.
-fn tail(book: &[u8], n: usize, l: usize, family: usize, count: usize) -> Reading
-    requires { Limited n l × (7 ≤ length book.now) }
-    ensures { result ≡ tail_of book.now n l family count }
+// After the head: the rules, over l settings of n values each, then the end, and nothing more.
+#[tactic(auto, using(crate::proofs::laws::Lent::lent_sizes), unfolding(crate::specs::Format::tail_of))]
+fn tail(book: &[u8], head: Head) -> Result<Head, Fault>
+    requires { Limited head.n head.l × (7 ≤ length book.now) }
+    ensures { result ≡ tail_of book.now head.n head.l head.family head.rules }
 {
-    let end = match rules_alike(book, n, l, family, count) {
-        Got::At(v) => v,
-        Got::No(f) => {
-            return Reading::Faulty(f);
-        }
+    let sizes = sixteen(head.n);
+    let reader = Reader {
+        book,
+        sizes: &sizes[..head.l],
+        family: head.family,
     };
-    let last = match mark(book, end, 69) {
-        Got::At(v) => v,
-        Got::No(f) => {
-            return Reading::Faulty(f);
-        }
-    };
+    let end = reader.rules(7, head.rules)?;
+    let last = mark(book, end, b'E')?;
     if last < book.len() {
-        return Reading::Faulty(Fault::Trailing(last));
+        return Err(Fault::Trailing(last));
     }
-    Reading::Book {
-        n: n,
-        l: l,
-        family: family,
-        rules: count,
-    }
-}
-
-// After n and l: the family, the number of rules, and what follows.
-fn rest(book: &[u8], n: usize, l: usize) -> Reading
-    requires { Limited n l }
-    ensures { result ≡ rest_of book.now n l }
-{
-    let family = match field(book, 0, 4, 0, 4) {
-        Got::At(v) => v,
-        Got::No(f) => {
-            return Reading::Faulty(f);
-        }
-    };
-    let count = match word(book, 0, 5, 24577) {
-        Got::At(v) => v,
-        Got::No(f) => {
-            return Reading::Faulty(f);
-        }
-    };
-    tail(book, n, l, family, count)
+    Ok(head)
 }
 
 // Reads a book field by field from the left: n, l, family and number of rules, or the first fault.
-pub fn read(book: &[u8]) -> Reading
+#[tactic(auto, unfolding(crate::specs::Format::read_of, crate::specs::Format::rest_of))]
+pub fn read(book: &[u8]) -> Result<Head, Fault>
     ensures { result ≡ read_of book.now }
 {
-    let m = match mark(book, 0, 66) {
-        Got::At(v) => v,
-        Got::No(f) => {
-            return Reading::Faulty(f);
-        }
-    };
-    let n = match field(book, 0, 2, 1, 65) {
-        Got::At(v) => v,
-        Got::No(f) => {
-            return Reading::Faulty(f);
-        }
-    };
-    let l = match field(book, 0, 3, 1, 17) {
-        Got::At(v) => v,
-        Got::No(f) => {
-            return Reading::Faulty(f);
-        }
-    };
-    rest(book, n, l)
+    mark(book, 0, b'B')?;
+    let n = field(book, 0, 2, 1..65)?;
+    let l = field(book, 0, 3, 1..17)?;
+    let family = field(book, 0, 4, 0..4)?;
+    let rules = word(book, 0, 5, 24577)?;
+    tail(
+        book,
+        Head {
+            n,
+            l,
+            family,
+            rules,
+        },
+    )
 }

@@ -2,23 +2,10 @@
 // A writer gives the place after the record in either case, so that a run over no room measures.
 ghost use Rattle.std.specs.Prelude.{◌≡◌, ◌+◌, ◌≤◌, ◌<◌, length};
 ghost use Rattle.meaning.specs.Bytes.{encode_head, encode_end};
-ghost use Rattle.books.specs.Inner.{put_at, Puts, rule_record};
+ghost use Rattle.books.specs.Inner.{Puts, rule_record};
 
-use literals::narrow;
-
-// Copies the bytes over the room from `at` on; what stands before and after them stays.
-fn copy(room: &mut [u8], at: usize, bytes: &[u8])
-    requires { at + length bytes.now ≤ length room.old }
-    ensures { room.new ≡ put_at room.old at bytes.now }
-{
-    let mut i: usize = 0;
-    while i < bytes.len() {
-        room[at + i] = bytes[i];
-        i += 1;
-    }
-}
-
-// Copies the bytes where they fit.
+// Copies the bytes over the room from `at` on, where they fit.
+#[tactic(auto, using(crate::proofs::laws::Records::puts))]
 fn put(room: &mut [u8], at: usize, bytes: &[u8]) -> usize
     requires { (at ≤ 4294967295) × (length bytes.now < 768) }
     ensures { Puts room.old room.new at bytes.now result }
@@ -27,28 +14,26 @@ fn put(room: &mut [u8], at: usize, bytes: &[u8]) -> usize
     if room.len() < next {
         return next;
     }
-    copy(room, at, bytes);
+    room[at..next].copy_from_slice(bytes);
     next
 }
 
 // The head, at the start of the room.
+#[tactic(auto, using(crate::proofs::laws::Records::puts_head))]
 pub fn put_head(room: &mut [u8], n: usize, l: usize, family: usize, rules: usize) -> usize
     requires { (n < 256) × (l < 256) × (family < 256) × (rules < 65536) }
     ensures { Puts room.old room.new 0 (encode_head n l family rules) result }
 {
-    let head = [
-        82,
-        66,
-        narrow(n),
-        narrow(l),
-        narrow(family),
-        narrow(rules / 256),
-        narrow(rules % 256),
-    ];
-    put(room, 0, &head)
+    let [high, low] = (rules as u16).to_be_bytes();
+    put(
+        room,
+        0,
+        &[b'R', b'B', n as u8, l as u8, family as u8, high, low],
+    )
 }
 
 // A rule, from the bytes of its literals, three each.
+#[tactic(auto, using(crate::proofs::laws::Records::puts_rule))]
 pub fn put_rule(room: &mut [u8], at: usize, literals: &[u8]) -> usize
     requires { (at ≤ 4294967295) × (length literals.now < 768) }
     ensures { Puts room.old room.new at (rule_record literals.now) result }
@@ -58,9 +43,8 @@ pub fn put_rule(room: &mut [u8], at: usize, literals: &[u8]) -> usize
     if room.len() < next {
         return next;
     }
-    let mark = [82, 85, narrow(literals.len() / 3)];
-    copy(room, at, &mark);
-    copy(room, start, literals);
+    room[at..start].copy_from_slice(&[b'R', b'U', (literals.len() / 3) as u8]);
+    room[start..next].copy_from_slice(literals);
     next
 }
 
@@ -69,6 +53,5 @@ pub fn put_end(room: &mut [u8], at: usize) -> usize
     requires { at ≤ 4294967295 }
     ensures { Puts room.old room.new at encode_end result }
 {
-    let end = [82, 69];
-    put(room, at, &end)
+    put(room, at, b"RE")
 }

@@ -1,55 +1,48 @@
 // The rules of a book: a rule's literals, whether it is idle, its family, and as many rules as the head says.
-ghost use Rattle.std.specs.Prelude.{◌≡◌, ◌+◌, ◌*◌, ◌≤◌, ◌<◌, length};
-ghost use Rattle.meaning.specs.Rules.{covers, overlap, in_family};
+ghost use Rattle.std.specs.Prelude.{◌≡◌, ◌+◌, ◌*◌, ◌≤◌, ◌<◌, length, IfOk};
+ghost use Rattle.meaning.specs.Rules.{overlap, in_family};
 ghost use Rattle.meaning.specs.Bytes.{literal_at, literals_at};
 ghost use Rattle.meaning.specs.Inner.{Sized};
-ghost use Rattle.books.specs.Format.{body_of, rule_of, rules_of};
+ghost use Rattle.books.specs.Format.{rule_of, rules_of};
 ghost use Rattle.books.specs.Inner.{idle_next};
 
+use crate::Fault;
 use crate::fields::{field, mark};
-use crate::literal_fields::literals;
-use crate::{Fault, Got};
-use literals::scarces;
+use literals::{Family, Side, scarces};
 
-// Do 'at most a' and 'at least b' on one setting make a rule idle?
-fn covered(a: u8, b: u8) -> bool
-    ensures { result ≡ covers a b }
-{
-    b <= a
+// A book that is read, the sizes of its settings, and the family that its head names.
+#[derive(Clone, Copy)]
+pub struct Reader<'a> {
+    pub book: &'a [u8],
+    pub sizes: &'a [u8],
+    pub family: usize,
+    ghost sized: { Sized sizes.now },
 }
 
 // Does the literal at p make the rule idle with the one after it?
+// It does where they are 'at most a' and 'at least b' on one setting, and b is at most a.
+#[tactic(auto, using(crate::proofs::laws::Idle::overlap_ways))]
 fn overlaps(book: &[u8], p: usize) -> bool
     requires { p + 6 ≤ length book.now }
     ensures { result ≡ overlap (literal_at book.now p) (literal_at book.now (p + 3)) }
 {
     let q = p + 3;
-    if book[p + 1] == 0 {
-        if book[q + 1] == 0 {
-            return false;
-        }
-        if book[p] == book[q] {
-            return covered(book[p + 2], book[q + 2]);
-        }
+    if book[p + 1] != 0 || book[q + 1] == 0 {
         return false;
     }
-    false
+    book[p] == book[q] && book[q + 2] <= book[p + 2]
 }
 
 // Does one of the c literals from `start` on make the rule idle with the one after it?
+#[tactic(auto, using(crate::proofs::laws::Idle::idle_loop))]
 fn idle(book: &[u8], start: usize, c: usize) -> bool
     requires { start + 3 * c ≤ length book.now }
     ensures { result ≡ idle_next (literals_at book.now start c) }
 {
-    let mut p = start;
-    let mut i: usize = 1;
-    while i < c {
-        let found = overlaps(book, p);
-        if found {
+    for i in 1..c {
+        if overlaps(book, start + 3 * i - 3) {
             return true;
         }
-        p += 3;
-        i += 1;
     }
     false
 }
@@ -59,75 +52,46 @@ fn kept(book: &[u8], start: usize, c: usize, family: usize) -> bool
     requires { start + 3 * c ≤ length book.now }
     ensures { result ≡ in_family family (literals_at book.now start c) }
 {
-    if family == 0 {
-        return true;
+    let literals = &book[start..start + 3 * c];
+    match Family::of(family) {
+        Family::General => true,
+        Family::Horn => scarces(literals, Side::Low) < 2,
+        Family::Dual => scarces(literals, Side::High) < 2,
+        Family::Bijunctive => c < 3,
     }
-    if 2 < family {
-        return c < 3;
-    }
-    let few = scarces(book, start, c, family == 2);
-    few < 2
 }
 
-// The c literals of the rule at `from`, and the rule as a whole. Gives the place after it.
-fn body(book: &[u8], sizes: &[u8], family: usize, from: usize, c: usize) -> Got
-    requires { Sized sizes.now × (from + 3 ≤ length book.now) }
-    ensures { result ≡ body_of book.now sizes.now family from c }
-{
-    let end = match literals(book, sizes, from, c) {
-        Got::At(v) => v,
-        Got::No(f) => {
-            return Got::No(f);
+impl Reader<'_> {
+    // The rule at `from`: its mark, the number of its literals, these, then the rule as a whole. Gives the place after it.
+    #[tactic(auto, using(crate::proofs::laws::Rules::is_idle), unfolding(crate::specs::Format::rule_of, crate::specs::Format::body_of))]
+    fn rule(&self, from: usize) -> Result<usize, Fault>
+        requires { from ≤ length self.now.book.now }
+        ensures value { result ≡ rule_of self.now.book.now self.now.sizes.now self.now.family from }
+        ensures inside { IfOk result (λ v. v ≤ length self.now.book.now) }
+    {
+        mark(self.book, from, b'U')?;
+        let c = field(self.book, from, from + 2, 0..2 * self.sizes.len() + 1)?;
+        let end = self.literals(from, c)?;
+        if idle(self.book, from + 3, c) {
+            return Err(Fault::Idle(from));
         }
-    };
-    let useless = idle(book, from + 3, c);
-    if useless {
-        return Got::No(Fault::Idle(from));
+        if !kept(self.book, from + 3, c, self.family) {
+            return Err(Fault::Family(from));
+        }
+        Ok(end)
     }
-    let inside = kept(book, from + 3, c, family);
-    if inside {
-        return Got::At(end);
-    }
-    Got::No(Fault::Family(from))
-}
 
-// The rule at `from`. Gives the place after it.
-fn rule(book: &[u8], sizes: &[u8], family: usize, from: usize) -> Got
-    requires { Sized sizes.now × (from ≤ length book.now) }
-    ensures { result ≡ rule_of book.now sizes.now family from }
-{
-    let m = match mark(book, from, 85) {
-        Got::At(v) => v,
-        Got::No(f) => {
-            return Got::No(f);
+    // As many rules as `count` from `start` on. Gives the place after them.
+    #[tactic(auto, using(crate::proofs::laws::Rules::rules_loop))]
+    pub fn rules(&self, start: usize, count: usize) -> Result<usize, Fault>
+        requires { start ≤ length self.now.book.now }
+        ensures value { result ≡ rules_of self.now.book.now self.now.sizes.now self.now.family start count }
+        ensures inside { IfOk result (λ v. v ≤ length self.now.book.now) }
+    {
+        let mut p = start;
+        for _i in 0..count {
+            p = self.rule(p)?;
         }
-    };
-    let l = sizes.len();
-    let c = match field(book, from, from + 2, 0, 2 * l + 1) {
-        Got::At(v) => v,
-        Got::No(f) => {
-            return Got::No(f);
-        }
-    };
-    body(book, sizes, family, from, c)
-}
-
-// As many rules as `count` from `start` on. Gives the place after them.
-pub fn rules(book: &[u8], sizes: &[u8], family: usize, start: usize, count: usize) -> Got
-    requires { Sized sizes.now × (start ≤ length book.now) }
-    ensures { result ≡ rules_of book.now sizes.now family start count }
-{
-    let mut p = start;
-    let mut i: usize = 0;
-    while i < count {
-        let next = match rule(book, sizes, family, p) {
-            Got::At(v) => v,
-            Got::No(f) => {
-                return Got::No(f);
-            }
-        };
-        p = next;
-        i += 1;
+        Ok(p)
     }
-    Got::At(p)
 }

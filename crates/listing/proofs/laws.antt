@@ -1,4 +1,3 @@
-pub mod Answers
 pub mod Copying
 pub mod Course
 pub mod CursorTests

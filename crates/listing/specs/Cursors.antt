@@ -2,6 +2,8 @@
 use Rattle.std.specs.Prelude.{ℕ, ◌+◌, ◌-◌, Bool, true, cond, ◌&&◌, List, [], ◌∷◌, ◌++◌, leb, eqb, length, take, drop, replicate}
 use Rattle.meaning.specs.Rows.{Row, Sizes, alike, begins, limits}
 use Rattle.listing.specs.declared.cursor.Cursor.{Cursor}
+use Rattle.listing.specs.declared.cursor.Move.{Move}
+use Rattle.listing.specs.declared.cursor.Move.TheVariants.{Down, Along, Up}
 
 -- the prefix that a cursor is
 abbrev pub prefix_of : Cursor → Row
@@ -53,6 +55,12 @@ along_in ns c = move_to ns c (next_value (prefix_of c))
 abbrev pub up_in : Sizes → Cursor → Cursor
 up_in ns c = move_to ns c (one_shorter (prefix_of c))
 
+-- any of the three
+abbrev pub moved_in : Sizes → Cursor → Move → Cursor
+moved_in ns c Down = down_in ns c
+moved_in ns c Along = along_in ns c
+moved_in ns c Up = up_in ns c
+
 -- the moves of edition 1: the same cursor where n or l is outside its limits
 unfoldable pub down_of : ℕ → ℕ → Cursor → Cursor
 down_of n l c = cond (limits n l) (down_in (alike n l) c) c
@@ -62,3 +70,6 @@ along_of n l c = cond (limits n l) (along_in (alike n l) c) c
 
 unfoldable pub up_of : ℕ → ℕ → Cursor → Cursor
 up_of n l c = cond (limits n l) (up_in (alike n l) c) c
+
+unfoldable pub moved_of : ℕ → ℕ → Cursor → Move → Cursor
+moved_of n l c m = cond (limits n l) (moved_in (alike n l) c m) c

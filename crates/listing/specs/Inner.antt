@@ -1,6 +1,6 @@
 -- Inner: the words that only inner contracts cite.
-use Rattle.std.specs.Prelude.{ℕ, ◌≤◌, ◌<◌, ◌+◌, zero, suc, ◌/◌, ◌%◌, ◌^◌, ◌*◌, ◌-◌, List, [], ◌∷◌, ◌++◌, ◌≡◌, Bool, true, cond, false, ◌&&◌, ◌||◌, not, ◌⊎◌, length, get_or, set, T, leb, eqb, ltb}
-use Rattle.meaning.specs.Rows.{Sizes, begins, Row, at, Limited}
+use Rattle.std.specs.Prelude.{ℕ, ◌≤◌, ◌<◌, ◌+◌, zero, suc, ◌/◌, ◌%◌, ◌^◌, ◌*◌, ◌-◌, List, [], ◌∷◌, ◌++◌, ◌≡◌, Bool, true, cond, false, ◌&&◌, ◌||◌, not, ◌⊎◌, Option, Some, None, length, get_or, set, T, leb, eqb, ltb}
+use Rattle.meaning.specs.Rows.{Sizes, begins, Row, at}
 use Rattle.meaning.specs.Lists.{All, each}
 use Rattle.meaning.specs.Rules.{bound, Ordered, holds, met}
 use Rattle.meaning.specs.Bytes.{rule_at, end_at, literal_at, rules_at, place_at, word_at}
@@ -56,7 +56,7 @@ early_of b x p (suc k) =
     cond (leb (length x) (get_or b p 0)) (Left p (suc k)) (cond (holds (literal_at b p) x) (Holds p) (early_of b x (p + 3) k))
 
 abbrev pub forbids : ℕ → ℕ → Judged
-forbids low high = record { lasts = false; low = low; high = high; hint = 0 }
+forbids low high = record { lasts = false; low = low; high = high; hint = None }
 
 -- v is one of the values from low up to below high
 abbrev pub between : ℕ → ℕ → ℕ → Bool
@@ -100,9 +100,10 @@ pub record Scans (b : List ℕ) (d : Row → Bool) (x : Row) (set : ℕ) (s : Sc
   pub window : (v : ℕ) → d (x ++ (v ∷ [])) ≡ false → Window b d (x ++ (v ∷ [])) s.at s.rules
 
 -- the span with rule i, whose mark is at place `at`, if it lasts
-unfoldable pub widen_of : Span → Bool → ℕ → ℕ → Span
-widen_of w lasts at i =
-    cond lasts (cond (eqb w.end 0) (record { at = at; first = i; end = i + 1 }) (record { at = w.at; first = w.first; end = i + 1 })) w
+unfoldable pub widen_of : Option Span → Bool → ℕ → ℕ → Option Span
+widen_of w false at i = w
+widen_of None true at i = Some (record { at = at; first = i; end = i + 1 })
+widen_of (Some s) true at i = Some (record { at = s.at; first = s.first; end = i + 1 })
 
 -- if it says yes, whatever has the value v or more at setting i meets the rule at place p
 pub record Passes (b : List ℕ) (p i v : ℕ) (r : Bool) : Type 0 where
@@ -307,6 +308,13 @@ pub record Grouped (b : List ℕ) (n : ℕ) (p s e : List ℕ) : Type 0 where
   pub entries : (g i : ℕ) → g < 16 → get_or s g 0 ≤ i → i < get_or e g 0 → EntryOf b n g (get_or p i 0)
   pub found : (k : ℕ) → k < n → Entered b p s e (place_at b 7 k)
 
+-- the rule at place `at` has literals, its last one is on setting g, and group g has space
+pub record HasSpace (b : List ℕ) (at : ℕ) (s e : List ℕ) (g : ℕ) : Type 0 where
+  pub some : 0 < get_or b (at + 2) 0
+  pub last : g ≡ last_of b at
+  pub known : g < 16
+  pub space : get_or e g 0 < get_or s (g + 1) 0
+
 -- of so many rules all are entered but `left`, which stand from place `at` on
 pub record Sorted (b : List ℕ) (rules : ℕ) (p s e : List ℕ) (at left : ℕ) : Type 0 where
   pub few : left ≤ rules
@@ -315,7 +323,7 @@ pub record Sorted (b : List ℕ) (rules : ℕ) (p s e : List ℕ) (at left : ℕ
 
 -- none is left: no step was made; or nothing is below the last prefix, and each of its values is the last of its setting
 unfoldable pub finished_of : Sizes → Walk → Bool
-finished_of ns w = eqb w.steps 0 || ((eqb w.last.len (length ns) || not (eqb w.dead 0)) && all_last ns (prefix_of w.last))
+finished_of ns w = eqb w.steps 0 || ((eqb w.last.len (length ns) || w.dead) && all_last ns (prefix_of w.last))
 
 -- k of the sizes, from setting i on
 abbrev pub part : Sizes → ℕ → ℕ → Sizes
@@ -342,13 +350,8 @@ module _ (d : Row → Bool) where
 abbrev pub S : Type 0
 S = Walk × List ℕ
 
--- a mark in a walk: 1 for yes
-abbrev pub flag : Bool → ℕ
-flag true = 1
-flag false = 0
-
 abbrev pub walk_of : Cursor → Bool → ℕ → ℕ → Walk
-walk_of q d rows steps = record { last = q; dead = flag d; rows = rows; steps = steps }
+walk_of q d rows steps = record { last = q; dead = d; rows = rows; steps = steps }
 
 -- a visit of q, dead or not: one step; a live one of length l is written as a row
 abbrev pub move_of : ℕ → Bool → Cursor → S → S
@@ -408,8 +411,9 @@ pub record Turns (d : Row → Bool) (ns : Sizes) (cur : Cursor) (levels fit budg
 pub record Allows (d : Row → Bool) (x : Row) (set : ℕ) : Type 0 where
   pub is : (v : ℕ) → v < 64 → forbidden set v ≡ d (x ++ (v ∷ []))
 
-abbrev pub skip_of : Walk → Cursor → ℕ → ℕ → Walk
-skip_of w cur v u = cond (eqb u v) w (walk_of (push_of cur (u - 1)) true w.rows (w.steps + (u - v)))
+-- the walk with its last prefix set, once the values from v up to below u are visited after cur
+abbrev pub behind_of : Walk → Cursor → ℕ → ℕ → Walk
+behind_of w cur v u = cond (eqb u v) w (walk_of (push_of cur (u - 1)) w.dead w.rows w.steps)
 
 module _ (d : Row → Bool) (ns : Sizes) (cur : Cursor) (fit budget : ℕ) where
   -- from the walk w at the value v to the walk r at u, with nothing left out
@@ -449,18 +453,8 @@ pub record Starts (b : List ℕ) (rules : ℕ) (ns : Sizes) (c : Cursor) (o : Li
   pub row : length ns ≤ length o
   pub step : 1 ≤ budget
 
--- the same of a book of edition 1
-pub record Numbers (b : List ℕ) (n l rules : ℕ) : Type 0 where
-  pub limits : Limited n l
-  pub stand : AllStand b 7 rules
-  pub count : word_at b 5 ≡ rules
-  pub few : rules ≤ 24576
-
 unfoldable pub leaf_rows : Bool → ℕ → ℕ
 leaf_rows b rows = cond b rows (rows + 1)
 
 unfoldable pub leaf_room : Bool → List ℕ → ℕ → Row → ℕ → List ℕ
 leaf_room b o at x v = cond b o (put_at o at (x ++ (v ∷ [])))
-
-abbrev pub leaf_of : Walk → Cursor → ℕ → ℕ → Bool → ℕ → ℕ → Walk
-leaf_of w cur v u f rows steps = cond (eqb u v) w (walk_of (push_of cur (u - 1)) f rows steps)

@@ -1,41 +1,31 @@
 -- Promise: the words of demand 3: pages of a book one after the other, what they have shown together, and when that is the whole.
-use Rattle.std.specs.Prelude.{ℕ, ◌+◌, ◌*◌, ◌≤◌, ◌≡◌, Bool, true, false, cond, List, [], ◌∷◌, ◌++◌, length, take}
+use Rattle.std.specs.Prelude.{ℕ, ◌+◌, ◌*◌, ◌≤◌, ◌≡◌, Bool, true, false, cond, Result, Ok, Err, List, [], ◌∷◌, ◌++◌, length, take}
 use Rattle.meaning.specs.Lists.{keep, All}
 use Rattle.meaning.specs.Rows.{alike}
 use Rattle.meaning.specs.Rules.{all_met}
 use Rattle.meaning.specs.Bytes.{rules_in}
 use Rattle.meaning.specs.Listing.{dead, combinations, visits}
-use Rattle.books.specs.declared.Reading.TheVariants.{Book}
-use Rattle.books.specs.Format.{read_of}
+use Rattle.books.specs.Format.{Book, read_of}
 use Rattle.listing.specs.declared.cursor.Cursor.{Cursor}
 use Rattle.listing.specs.Pages.{P, page_of, flat}
-use Rattle.listing.specs.declared.paging.Outcome.{Outcome}
-use Rattle.listing.specs.declared.paging.Outcome.TheVariants.{Listed, Faulty, BadCursor, NoRoom, BadBudget}
+use Rattle.listing.specs.declared.paging.Listed.{Listed}
+use Rattle.listing.specs.declared.paging.Unlisted.{Unlisted}
 
 -- ---- a run of calls
 
 -- ---- what an outcome says of a page
 
-abbrev pub rows_in : Outcome → ℕ
-rows_in (Listed rows steps finished) = rows
-rows_in (Faulty f) = 0
-rows_in BadCursor = 0
-rows_in NoRoom = 0
-rows_in BadBudget = 0
+abbrev pub rows_in : Result Listed Unlisted → ℕ
+rows_in (Ok x) = x.rows
+rows_in (Err u) = 0
 
-abbrev pub steps_in : Outcome → ℕ
-steps_in (Listed rows steps finished) = steps
-steps_in (Faulty f) = 0
-steps_in BadCursor = 0
-steps_in NoRoom = 0
-steps_in BadBudget = 0
+abbrev pub steps_in : Result Listed Unlisted → ℕ
+steps_in (Ok x) = x.steps
+steps_in (Err u) = 0
 
-abbrev pub finished_in : Outcome → Bool
-finished_in (Listed rows steps finished) = finished
-finished_in (Faulty f) = false
-finished_in BadCursor = false
-finished_in NoRoom = false
-finished_in BadBudget = false
+abbrev pub finished_in : Result Listed Unlisted → Bool
+finished_in (Ok x) = x.finished
+finished_in (Err u) = false
 
 -- a call for each lent room and budget, each with the cursor that the last one gave, until one says that it is finished
 abbrev pub run_of : List ℕ → List (List ℕ × ℕ) → Cursor → List P

@@ -12,4 +12,4 @@ mod values;
 mod walk;
 
 pub use cursor::Cursor;
-pub use paging::{Outcome, Paged, page};
+pub use paging::{Listed, Paged, Unlisted, page};

@@ -1,38 +1,48 @@
 // The page: its refusals in document 01's order, then the walk, and whether any visited prefix is left.
-ghost use Rattle.std.specs.Prelude.{◌≡◌, ◌≤◌, ◌<◌, length};
-ghost use Rattle.meaning.specs.Rows.{alike};
+ghost use Rattle.std.specs.Prelude.{◌≡◌, ◌≤◌, ◌<◌, length, Ok};
 ghost use Rattle.meaning.specs.Bytes.{rules_in};
 ghost use Rattle.meaning.specs.Listing.{dead};
 ghost use Rattle.meaning.specs.Inner.{all_last};
 ghost use Rattle.listing.specs.Cursors.{prefix_of};
-ghost use Rattle.listing.specs.Inner.{Plain, finished_of, Numbers, Standard, Starts};
-ghost use Rattle.listing.specs.Pages.{P, listed_in, page_in, page_of};
+ghost use Rattle.listing.specs.Inner.{Plain, finished_of, Standard, Starts};
+ghost use Rattle.listing.specs.declared.paging.Unlisted.TheVariants.{Faulty};
+ghost use Rattle.listing.specs.Pages.{P, beside, listed_in, page_in, page_of};
 
 use crate::cursor::{Cursor, cursor_ok};
 use crate::start::start;
 use crate::steps::Walk;
-use books::{Fault, Reading};
-use literals::{narrow, wide};
+use books::Fault;
 
-// How a page ends: with so many rows and steps, and whether it is finished; or refused.
+// What a page shows: so many rows, in so many steps, and whether no visited prefix is left behind its last one.
 #[derive(Clone, Copy)]
-pub enum Outcome {
-    Listed {
-        rows: usize,
-        steps: usize,
-        finished: bool,
-    },
+pub struct Listed {
+    pub rows: usize,
+    pub steps: usize,
+    pub finished: bool,
+}
+
+// Why a page shows nothing.
+#[derive(Clone, Copy)]
+pub enum Unlisted {
     Faulty(Fault),
     BadCursor,
     NoRoom,
     BadBudget,
 }
 
+impl From<Fault> for Unlisted {
+    ghost from_gives = { λ fault e. e ≡ Faulty fault };
+
+    fn from(fault: Fault) -> Unlisted {
+        Unlisted::Faulty(fault)
+    }
+}
+
 // A page's answer: the last prefix visited, or the given cursor, beside its outcome.
 #[derive(Clone, Copy)]
 pub struct Paged {
     pub cursor: Cursor,
-    pub outcome: Outcome,
+    pub outcome: Result<Listed, Unlisted>,
 }
 
 // Is each value of q the last of its setting?
@@ -40,22 +50,15 @@ fn all_last(sizes: &[u8], q: Cursor) -> bool
     requires { Plain q × (q.len ≤ length sizes.now) }
     ensures { result ≡ all_last sizes.now (prefix_of q) }
 {
-    let len = q.len;
-    let values = q.values;
-    let mut i: usize = 0;
-    while i < len {
-        let v = wide(values[i]);
-        let n = wide(sizes[i]);
-        if v + 1 < n {
-            return false;
-        }
-        i += 1;
-    }
-    true
+    let prefix = &q.values[..q.len];
+    prefix
+        .iter()
+        .zip(sizes)
+        .all(|(v, n)| usize::from(*n) <= usize::from(*v) + 1)
 }
 
 // Is no visited prefix left behind the last one visited? It is decided there: nothing is below it, and each of its values is the last.
-#[tactic(auto, using(crate::proofs::laws::Ending::ends_unmoved))]
+#[tactic(auto, unfolding(crate::specs::Inner::finished_of))]
 fn finished(sizes: &[u8], w: Walk) -> bool
     requires { Plain w.last × (w.last.len ≤ length sizes.now) }
     ensures { result ≡ finished_of sizes.now w }
@@ -64,39 +67,29 @@ fn finished(sizes: &[u8], w: Walk) -> bool
         return true;
     }
     let q = w.last;
-    if q.len == sizes.len() {
-        return all_last(sizes, q);
-    }
-    if w.dead != 0 {
-        return all_last(sizes, q);
-    }
-    false
+    (q.len == sizes.len() || w.dead) && all_last(sizes, q)
 }
 
-// The page from a good cursor, with room for a row and a budget of a step.
-fn listed(
+// The page from a good cursor, with room for a row and a budget of a step: the last prefix visited, and what is shown.
+fn list(
     book: &[u8],
     rules: usize,
     sizes: &[u8],
     cursor: Cursor,
     room: &mut [u8],
     budget: usize,
-) -> Paged
+) -> (Cursor, Listed)
     requires { Starts book.now rules sizes.now cursor room.old budget }
-    ensures { ◌≡◌ {A = P} (result, room.new) (listed_in sizes.now (dead (rules_in book.now)) cursor budget room.old) }
+    ensures { ◌≡◌ {A = P} (beside cursor (Ok result), room.new) (listed_in sizes.now (dead (rules_in book.now)) cursor budget room.old) }
 {
     let fit = room.len() / sizes.len();
     let w = start(book, rules, sizes, room, cursor, fit, budget);
-    let last = w.last;
-    let outcome = Outcome::Listed {
+    let listed = Listed {
         rows: w.rows,
         steps: w.steps,
         finished: finished(sizes, w),
     };
-    Paged {
-        cursor: last,
-        outcome,
-    }
+    (w.last, listed)
 }
 
 // The page over the sizes: a bad cursor, no room for a row, and a budget outside its limits are refused, in this order.
@@ -107,53 +100,34 @@ fn page_in(
     cursor: Cursor,
     room: &mut [u8],
     budget: usize,
-) -> Paged
+) -> Result<(Cursor, Listed), Unlisted>
     requires { Standard book.now rules sizes.now }
-    ensures { ◌≡◌ {A = P} (result, room.new) (page_in sizes.now (dead (rules_in book.now)) cursor budget room.old) }
+    ensures { ◌≡◌ {A = P} (beside cursor result, room.new) (page_in sizes.now (dead (rules_in book.now)) cursor budget room.old) }
 {
     if !cursor_ok(sizes, cursor) {
-        return Paged {
-            cursor,
-            outcome: Outcome::BadCursor,
-        };
+        return Err(Unlisted::BadCursor);
     }
     if room.len() < sizes.len() {
-        return Paged {
-            cursor,
-            outcome: Outcome::NoRoom,
-        };
+        return Err(Unlisted::NoRoom);
     }
-    if budget == 0 {
-        return Paged {
-            cursor,
-            outcome: Outcome::BadBudget,
-        };
+    if budget == 0 || 65535 < budget {
+        return Err(Unlisted::BadBudget);
     }
-    if 65535 < budget {
-        return Paged {
-            cursor,
-            outcome: Outcome::BadBudget,
-        };
-    }
-    listed(book, rules, sizes, cursor, room, budget)
+    Ok(list(book, rules, sizes, cursor, room, budget))
 }
 
-// The page of a book of edition 1: l settings of n values each.
-fn page_alike(
+// The page of a book of edition 1, l settings of n values each; or why there is none.
+fn try_page(
     book: &[u8],
-    n: usize,
-    l: usize,
-    rules: usize,
     cursor: Cursor,
     room: &mut [u8],
     budget: usize,
-) -> Paged
-    requires { Numbers book.now n l rules }
-    ensures { ◌≡◌ {A = P} (result, room.new) (page_in (alike n l) (dead (rules_in book.now)) cursor budget room.old) }
+) -> Result<(Cursor, Listed), Unlisted>
+    ensures { ◌≡◌ {A = P} (beside cursor result, room.new) (page_of book.now cursor budget room.old) }
 {
-    let space = [narrow(n); 16];
-    let sizes = &space[..l];
-    page_in(book, rules, sizes, cursor, room, budget)
+    let head = books::read(book)?;
+    let space = [head.n as u8; 16];
+    page_in(book, head.rules, &space[..head.l], cursor, room, budget)
 }
 
 // A page of a book: from the cursor on it visits the visited prefixes, writes the live ones of full length as rows into the room, and
@@ -163,16 +137,14 @@ fn page_alike(
 pub fn page(book: &[u8], cursor: Cursor, room: &mut [u8], budget: usize) -> Paged
     ensures { ◌≡◌ {A = P} (result, room.new) (page_of book.now cursor budget room.old) }
 {
-    match books::read(book) {
-        Reading::Book {
-            n,
-            l,
-            family: _,
-            rules,
-        } => page_alike(book, n, l, rules, cursor, room, budget),
-        Reading::Faulty(f) => Paged {
+    match try_page(book, cursor, room, budget) {
+        Ok((last, listed)) => Paged {
+            cursor: last,
+            outcome: Ok(listed),
+        },
+        Err(e) => Paged {
             cursor,
-            outcome: Outcome::Faulty(f),
+            outcome: Err(e),
         },
     }
 }

@@ -4,27 +4,42 @@ ghost use Rattle.literals.specs.Inner.{holds_by};
 ghost use Rattle.meaning.specs.Bytes.{end_at, rule_at, rules_at};
 ghost use Rattle.meaning.specs.Listing.{dead};
 ghost use Rattle.listing.specs.Cursors.{prefix_of};
-ghost use Rattle.listing.specs.Inner.{Plain, Stands, early_of, interval_of, Judges, AllStand, Passes, Trims, widen_of, Window, Scans};
+ghost use Rattle.listing.specs.Inner.{Plain, Stands, early_of, forbids, interval_of, Judges, AllStand, Passes, Trims, widen_of, Window, Scans};
 
 use crate::cursor::Cursor;
 use crate::values::without;
-use literals::{holds, rule_end, wide};
+use literals::{holds, rule_end};
 
 // What the literals on the settings of a prefix say: the one at a place holds; or none does, and so many are left from a place on.
+// Either is an answer, and neither a failure: so it is no Result.
 #[derive(Clone, Copy)]
 pub enum Passed {
     Holds(usize),
-    Left(usize, usize),
+    Left { at: usize, count: usize },
 }
 
 // What a rule asks of the value after a prefix: values from low up to below high are forbidden; if it lasts, it can still make a
-// prefix below dead. The hint is the number of a literal that holds, from 1, or 0; no answer rests on it.
+// prefix below dead. The hint is the number of a literal that holds, from 1; no answer rests on it.
 #[derive(Clone, Copy)]
 pub struct Judged {
     pub lasts: bool,
     pub low: usize,
     pub high: usize,
-    pub hint: u8,
+    pub hint: Option<u8>,
+}
+
+impl Judged {
+    // Values from low up to below high are forbidden, and the rule does not last.
+    fn forbids(low: usize, high: usize) -> Judged
+        ensures { result ≡ forbids low high }
+    {
+        Judged {
+            lasts: false,
+            low,
+            high,
+            hint: None,
+        }
+    }
 }
 
 // Some of the rules in a row: from number `first`, whose mark is at place `at`, up to below number `end`.
@@ -44,73 +59,55 @@ pub struct Scanned {
     pub rules: usize,
 }
 
-// Of `count` literals from place p on, by setting ascending, those on the settings of the prefix.
+// Of `count` literals from place p on, by setting ascending, those on the settings of the prefix. By place and not by pieces of three,
+// since the answer is a place.
 pub fn early(book: &[u8], p: usize, count: usize, cur: Cursor) -> Passed
     requires { Plain cur × (p + 3 * count ≤ length book.now) }
     ensures { result ≡ early_of book.now (prefix_of cur) p count }
 {
     let len = cur.len;
     let values = cur.values;
-    let mut at = p;
-    let mut left = count;
-    while 0 < left {
-        let i = wide(book[at]);
+    for k in 0..count {
+        let at = p + 3 * k;
+        let i = usize::from(book[at]);
         if len <= i {
-            return Passed::Left(at, left);
+            return Passed::Left {
+                at,
+                count: count - k,
+            };
         }
         if holds(book[at + 1], book[at + 2], values[i]) {
             return Passed::Holds(at);
         }
-        at += 3;
-        left -= 1;
     }
-    Passed::Left(at, 0)
+    Passed::Left {
+        at: p + 3 * count,
+        count: 0,
+    }
 }
 
 // What the last literals of a rule, `left` of them from place p on and all on one setting, forbid there.
+#[tactic(auto, unfolding(crate::specs::Inner::interval_of))]
 fn interval(book: &[u8], p: usize, left: usize) -> Judged
     requires { p + 3 * left ≤ length book.now }
     ensures { result ≡ interval_of book.now p left }
 {
     if left == 0 {
-        return Judged {
-            lasts: false,
-            low: 0,
-            high: 64,
-            hint: 0,
-        };
+        return Judged::forbids(0, 64);
     }
-    let bound = wide(book[p + 2]);
+    let bound = usize::from(book[p + 2]);
     if book[p + 1] != 0 {
-        return Judged {
-            lasts: false,
-            low: 0,
-            high: bound,
-            hint: 0,
-        };
+        return Judged::forbids(0, bound);
     }
     if left == 1 {
-        return Judged {
-            lasts: false,
-            low: bound + 1,
-            high: 64,
-            hint: 0,
-        };
+        return Judged::forbids(bound + 1, 64);
     }
-    Judged {
-        lasts: false,
-        low: bound + 1,
-        high: wide(book[p + 5]),
-        hint: 0,
-    }
+    Judged::forbids(bound + 1, usize::from(book[p + 5]))
 }
 
-// The number of the literal at place q of the rule at place `at`, from 1.
-fn number(at: usize, q: usize) -> u8 {
-    if q < at {
-        return 0;
-    }
-    ((q - at) / 3 % 256) as u8
+// The number of the literal at place q of the rule at place `at`, from 1, if there is one.
+fn number(at: usize, q: usize) -> Option<u8> {
+    u8::try_from(q.checked_sub(at)? / 3).ok()
 }
 
 // What the rule at place `at` asks below the prefix, which it does not make dead. Its last literal tells at once where it is met
@@ -119,61 +116,44 @@ pub fn judge(book: &[u8], at: usize, cur: Cursor) -> Judged
     requires { Plain cur × Stands book.now at × (dead (rule_at book.now at ∷ []) (prefix_of cur) ≡ false) }
     ensures { Judges book.now at (prefix_of cur) result }
 {
-    let none = Judged {
-        lasts: false,
-        low: 0,
-        high: 0,
-        hint: 0,
-    };
-    let count = wide(book[at + 2]);
+    let none = Judged::forbids(0, 0);
+    let count = usize::from(book[at + 2]);
     if count == 0 {
         return none;
     }
-    let len = cur.len;
-    let last = wide(book[at + 3 * count]);
-    if last < len {
+    let last = usize::from(book[at + 3 * count]);
+    if last < cur.len {
         return none;
     }
     match early(book, at + 3, count, cur) {
         Passed::Holds(q) => Judged {
-            lasts: false,
-            low: 0,
-            high: 0,
             hint: number(at, q),
+            ..none
         },
-        Passed::Left(p, left) => {
-            if len < last {
-                return Judged {
-                    lasts: true,
-                    low: 0,
-                    high: 0,
-                    hint: 0,
-                };
-            }
-            interval(book, p, left)
-        }
+        Passed::Left { .. } if cur.len < last => Judged {
+            lasts: true,
+            ..none
+        },
+        Passed::Left { at, count } => interval(book, at, count),
     }
 }
 
 // The span with rule i at place `at` in it, if it lasts.
-fn widen(span: Span, lasts: bool, at: usize, i: usize) -> Span
+#[tactic(auto, unfolding(crate::specs::Inner::widen_of))]
+fn widen(span: Option<Span>, lasts: bool, at: usize, i: usize) -> Option<Span>
     requires { i < 65536 }
     ensures { result ≡ widen_of span lasts at i }
 {
     if !lasts {
         return span;
     }
-    if span.end == 0 {
-        return Span {
+    match span {
+        Some(s) => Some(Span { end: i + 1, ..s }),
+        None => Some(Span {
             at,
             first: i,
             end: i + 1,
-        };
-    }
-    Span {
-        at: span.at,
-        first: span.first,
-        end: i + 1,
+        }),
     }
 }
 
@@ -183,24 +163,25 @@ pub fn scan(book: &[u8], from: usize, rules: usize, cur: Cursor, set: u64) -> Sc
     ensures { Scans book.now (dead (rules_at book.now from rules)) (prefix_of cur) set result }
 {
     let mut allowed = set;
-    let mut span = Span {
-        at: from,
-        first: 0,
-        end: 0,
-    };
+    let mut span = None;
     let mut at = from;
-    let mut i: usize = 0;
-    while i < rules {
+    for i in 0..rules {
         let j = judge(book, at, cur);
         allowed = without(allowed, j.low, j.high);
         span = widen(span, j.lasts, at, i);
         at = rule_end(book, at);
-        i += 1;
     }
-    Scanned {
-        allowed,
-        at: span.at,
-        rules: span.end - span.first,
+    match span {
+        Some(s) => Scanned {
+            allowed,
+            at: s.at,
+            rules: s.end - s.first,
+        },
+        None => Scanned {
+            allowed,
+            at: from,
+            rules: 0,
+        },
     }
 }
 
@@ -216,22 +197,16 @@ fn met_from(book: &[u8], at: usize, i: usize, v: u8) -> bool
     requires { end_at book.now at ≤ length book.now }
     ensures { Passes book.now at i v result }
 {
-    let count = wide(book[at + 2]);
-    let mut q = at + 3;
-    let mut left = count;
-    while 0 < left {
-        let k = wide(book[q]);
+    let count = usize::from(book[at + 2]);
+    for j in 0..count {
+        let q = at + 3 + 3 * j;
+        let k = usize::from(book[q]);
         if i < k {
             return false;
         }
-        let sign = book[q + 1];
-        if k == i {
-            if sign != 0 {
-                return book[q + 2] <= v;
-            }
+        if k == i && book[q + 1] != 0 {
+            return book[q + 2] <= v;
         }
-        q += 3;
-        left -= 1;
     }
     false
 }
@@ -246,13 +221,14 @@ pub fn trim(book: &[u8], at: usize, rules: usize, i: usize, v: u8) -> Run
         return Run { at, rules };
     }
     let mut p = at;
-    let mut left = rules;
-    while 0 < left {
+    for k in 0..rules {
         if !met_from(book, p, i, v) {
-            return Run { at: p, rules: left };
+            return Run {
+                at: p,
+                rules: rules - k,
+            };
         }
         p = rule_end(book, p);
-        left -= 1;
     }
-    Run { at: p, rules: left }
+    Run { at: p, rules: 0 }
 }

@@ -1,21 +1,32 @@
-// The steps of a page: one visit, a run of dead values, and the last level, whose live values are rows.
+// The steps of a page: what its walk goes by and has done, a run of dead values, and the last level, whose live values are rows.
 ghost use Rattle.std.specs.Prelude.{◌≡◌, [], ◌∷◌, ◌++◌, ◌+◌, ◌*◌, ◌-◌, ◌≤◌, ◌<◌, length, get_or};
 ghost use Rattle.meaning.specs.Inner.{Sized};
 ghost use Rattle.meaning.specs.Bytes.{rules_in};
 ghost use Rattle.meaning.specs.Listing.{dead};
 ghost use Rattle.books.specs.Inner.{put_at};
 ghost use Rattle.listing.specs.Cursors.{prefix_of};
-ghost use Rattle.listing.specs.Inner.{Plain, push_of, part, from_of, S, walk_of, flag, runs, Ready, Allows, skip_of, Skips, leaf_rows, leaf_room, leaf_of};
+ghost use Rattle.listing.specs.Inner.{Plain, push_of, part, from_of, S, runs, Ready, Allows, behind_of, Skips, leaf_rows, leaf_room};
 
 use crate::cursor::Cursor;
+use crate::scan::Scanned;
 use crate::values::lacks;
-use literals::wide;
+
+// What a page's walk goes by: the book, the sizes of its settings, the bounds of the groups, how many rows fit and how many steps may be
+// made. Nothing of it changes.
+#[derive(Clone, Copy)]
+pub struct Task<'a> {
+    pub book: &'a [u8],
+    pub sizes: &'a [u8],
+    pub starts: &'a [u16],
+    pub fit: usize,
+    pub budget: usize,
+}
 
 // What a page has done so far: the last prefix visited and whether it is dead, the rows written, the steps made.
 #[derive(Clone, Copy)]
 pub struct Walk {
     pub last: Cursor,
-    pub dead: usize,
+    pub dead: bool,
     pub rows: usize,
     pub steps: usize,
 }
@@ -34,92 +45,29 @@ pub fn push(c: Cursor, v: u8) -> Cursor
     }
 }
 
-// A mark: 1 for yes. A whole number, since a byte beside numbers makes a walk slow to copy.
-fn flag(yes: bool) -> usize
-    ensures { result ≡ flag yes }
-{
-    if yes {
-        return 1;
-    }
-    0
-}
-
-// What has been done once the prefix q is visited.
-pub fn seen(q: Cursor, dead: bool, rows: usize, steps: usize) -> Walk
-    ensures { result ≡ walk_of q dead rows steps }
-{
-    Walk {
-        last: q,
-        dead: flag(dead),
-        rows,
-        steps,
+impl Walk {
+    // The same walk with its last prefix set, once the values from `from` up to below v are visited after cur.
+    fn behind(self, cur: Cursor, from: u8, v: u8) -> Walk
+        requires { (cur.len < 16) × (from ≤ v) }
+        ensures { result ≡ behind_of self cur from v }
+    {
+        if v == from {
+            return self;
+        }
+        Walk {
+            last: push(cur, v - 1),
+            ..self
+        }
     }
 }
 
-// One visit, of a prefix q shorter than a row, dead or not: one step.
-pub fn visit(w: Walk, q: Cursor, dead: bool, budget: usize) -> Walk
-    requires { w.steps < budget }
-    ensures { result ≡ walk_of q dead w.rows (w.steps + 1) }
-{
-    seen(q, dead, w.rows, w.steps + 1)
-}
-
-// A walk, and the value of the next setting at which it goes on.
+// Where a walk stands below a prefix: the walk, the value of the next setting at which it goes on, and what is known of the values from
+// there on.
 #[derive(Clone, Copy)]
-pub struct Skipped {
+pub struct Point {
     pub walk: Walk,
     pub v: u8,
-}
-
-// The walk once the values from `from` up to below v, all dead, are visited after cur, at so many steps.
-fn after_run(w: Walk, cur: Cursor, from: u8, v: u8, steps: usize) -> Skipped
-    requires { (cur.len < 16) × (from ≤ v) × (steps ≡ w.steps + (v - from)) }
-    ensures { (result.walk ≡ skip_of w cur from v) × (result.v ≡ v) }
-{
-    if v == from {
-        return Skipped { walk: w, v };
-    }
-    let last = push(cur, v - 1);
-    let rows = w.rows;
-    let walk = seen(last, true, rows, steps);
-    Skipped { walk, v }
-}
-
-// Visits the dead values from `from` on, up to the first that is not, or as far as the budget goes.
-pub fn skip(
-    book: &[u8],
-    sizes: &[u8],
-    w: Walk,
-    cur: Cursor,
-    set: u64,
-    from: u8,
-    fit: usize,
-    budget: usize,
-) -> Skipped
-    requires { Plain cur × (cur.len < length sizes.now) × Sized sizes.now × Allows (dead (rules_in book.now)) (prefix_of cur) set }
-    ensures { Skips (dead (rules_in book.now)) sizes.now cur fit budget w from result.walk result.v }
-{
-    let rows = w.rows;
-    if fit <= rows {
-        return Skipped { walk: w, v: from };
-    }
-    let at = cur.len;
-    let n = sizes[at];
-    let mut steps = w.steps;
-    let mut v = from;
-    while v < n {
-        if budget <= steps {
-            return after_run(w, cur, from, v, steps);
-        }
-        let i = wide(v);
-        let dead = lacks(set, i);
-        if !dead {
-            return after_run(w, cur, from, v, steps);
-        }
-        v += 1;
-        steps += 1;
-    }
-    after_run(w, cur, from, v, steps)
+    pub scan: Scanned,
 }
 
 // Value i of the prefix cur with v behind it.
@@ -127,23 +75,18 @@ fn value(cur: Cursor, v: u8, i: usize) -> u8
     requires { Plain cur × (i ≤ cur.len) }
     ensures { result ≡ get_or (prefix_of cur ++ (v ∷ [])) i 0 }
 {
-    if i == cur.len {
-        return v;
-    }
-    let values = cur.values;
-    values[i]
+    if i == cur.len { v } else { cur.values[i] }
 }
 
-// Writes the prefix cur with v behind it into the room from place `at` on: value by value, since a copy of the prefix would be a call.
+// Writes the prefix cur with v behind it into the room from place `at` on: value by value and not by copy_from_slice, since a copy of
+// the prefix would be a call.
 fn put_row(room: &mut [u8], at: usize, cur: Cursor, v: u8)
     requires { Plain cur × (at + cur.len < length room.old) }
     ensures { room.new ≡ put_at room.old at (prefix_of cur ++ (v ∷ [])) }
 {
-    let len = cur.len;
-    let mut i: usize = 0;
-    while i <= len {
+    let l = cur.len + 1;
+    for i in 0..l {
         room[at + i] = value(cur, v, i);
-        i += 1;
     }
 }
 
@@ -159,52 +102,52 @@ fn leaf(room: &mut [u8], rows: usize, cur: Cursor, v: u8, dead: bool, l: usize) 
     rows + 1
 }
 
-// The walk once the values from `from` up to below v are visited after cur, the last of them dead or not.
-fn leafed(w: Walk, cur: Cursor, from: u8, v: u8, dead: bool, rows: usize, steps: usize) -> Walk
-    requires { (cur.len < 16) × (from ≤ v) }
-    ensures { result ≡ leaf_of w cur from v dead rows steps }
-{
-    if v == from {
-        return w;
+// The last prefix of a walk is not set at each value, but behind the run of them.
+impl Task<'_> {
+    // Visits the dead values from on.v on, up to the first that is not, or as far as the budget goes.
+    pub fn skip(&self, on: &Point, cur: Cursor) -> Point
+        requires { Plain cur × (cur.len < length self.now.sizes.now) × Sized self.now.sizes.now × Allows (dead (rules_in self.now.book.now)) (prefix_of cur) on.now.scan.allowed × (on.now.v ≤ get_or self.now.sizes.now cur.len 0) }
+        ensures { Skips (dead (rules_in self.now.book.now)) self.now.sizes.now cur self.now.fit self.now.budget on.now.walk on.now.v result.walk result.v × (result.scan ≡ on.now.scan) }
+    {
+        if self.fit <= on.walk.rows {
+            return *on;
+        }
+        let n = self.sizes[cur.len];
+        let mut walk = on.walk;
+        for v in on.v..n {
+            if self.budget <= walk.steps || !lacks(on.scan.allowed, usize::from(v)) {
+                return Point {
+                    walk: walk.behind(cur, on.v, v),
+                    v,
+                    ..*on
+                };
+            }
+            walk.dead = true;
+            walk.steps += 1;
+        }
+        Point {
+            walk: walk.behind(cur, on.v, n),
+            v: n,
+            ..*on
+        }
     }
-    let last = push(cur, v - 1);
-    seen(last, dead, rows, steps)
-}
 
-// All that is visited below the live prefix cur of all settings but one, from the value `from` on; `set` is what may follow it.
-pub fn leaves(
-    book: &[u8],
-    sizes: &[u8],
-    room: &mut [u8],
-    w: Walk,
-    cur: Cursor,
-    set: u64,
-    from: u8,
-    fit: usize,
-    budget: usize,
-) -> Walk
-    requires { Ready sizes.now room.old cur 1 fit × (cur.len + 1 ≡ length sizes.now) × Allows (dead (rules_in book.now)) (prefix_of cur) set }
-    ensures { ◌≡◌ {A = S} (result, room.new) (runs (dead (rules_in book.now)) (length sizes.now) fit budget (from_of (dead (rules_in book.now)) (part sizes.now cur.len 1) (prefix_of cur) from) (w, room.old)) }
-{
-    let at = cur.len;
-    let n = sizes[at];
-    let l = sizes.len();
-    let mut rows = w.rows;
-    let mut steps = w.steps;
-    let mut dead = false;
-    let mut v = from;
-    while v < n {
-        if fit <= rows {
-            return leafed(w, cur, from, v, dead, rows, steps);
+    // All that is visited below the live prefix cur of all settings but one, from the value on.v on.
+    pub fn leaves(&self, room: &mut [u8], on: &Point, cur: Cursor) -> Walk
+        requires { Ready self.now.sizes.now room.old cur 1 self.now.fit × (cur.len + 1 ≡ length self.now.sizes.now) × Allows (dead (rules_in self.now.book.now)) (prefix_of cur) on.now.scan.allowed × (on.now.v ≤ get_or self.now.sizes.now cur.len 0) }
+        ensures { ◌≡◌ {A = S} (result, room.new) (runs (dead (rules_in self.now.book.now)) (length self.now.sizes.now) self.now.fit self.now.budget (from_of (dead (rules_in self.now.book.now)) (part self.now.sizes.now cur.len 1) (prefix_of cur) on.now.v) (on.now.walk, room.old)) }
+    {
+        let n = self.sizes[cur.len];
+        let l = self.sizes.len();
+        let mut done = on.walk;
+        for v in on.v..n {
+            if self.fit <= done.rows || self.budget <= done.steps {
+                return done.behind(cur, on.v, v);
+            }
+            done.dead = lacks(on.scan.allowed, usize::from(v));
+            done.rows = leaf(room, done.rows, cur, v, done.dead, l);
+            done.steps += 1;
         }
-        if budget <= steps {
-            return leafed(w, cur, from, v, dead, rows, steps);
-        }
-        let i = wide(v);
-        dead = lacks(set, i);
-        rows = leaf(room, rows, cur, v, dead, l);
-        steps += 1;
-        v += 1;
+        done.behind(cur, on.v, n)
     }
-    leafed(w, cur, from, v, dead, rows, steps)
 }

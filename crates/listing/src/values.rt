@@ -18,6 +18,7 @@ pub fn without(set: u64, low: usize, high: usize) -> u64
 }
 
 // Is the value not in the set?
+#[tactic(auto, unfolding(crate::specs::Inner::forbidden, crate::specs::Inner::bit))]
 pub fn lacks(set: u64, v: usize) -> bool
     requires { v < 64 }
     ensures { result ≡ forbidden set v }

@@ -8,267 +8,207 @@ ghost use Rattle.listing.specs.Inner.{Plain, Kept, Open, Looks, Narrowable, Narr
 
 use crate::cursor::Cursor;
 use crate::groups::{look, narrow};
-use crate::scan::{Scanned, trim};
-use crate::steps::{Walk, leaves, push, skip, visit};
+use crate::scan::{Run, Scanned, trim};
+use crate::steps::{Point, Task, Walk, push};
 use crate::values::lacks;
-use literals::wide;
 
 // How many levels are gone into below a prefix: none if it is dead.
 fn inward(dead: bool, levels: usize) -> usize
     requires { 0 < levels }
     ensures { result ≡ inward_of dead levels }
 {
-    if dead {
-        return 0;
-    }
-    levels - 1
+    if dead { 0 } else { levels - 1 }
 }
 
-// The look below q, if any level is gone into.
-fn look_if(
-    book: &[u8],
-    places: &[u32],
-    hints: &mut [u8],
-    starts: &[u16],
-    ends: [u16; 16],
-    at: usize,
-    rules: usize,
-    q: Cursor,
-    levels: usize,
-) -> Scanned
-    requires { Plain q × (q.len + levels ≤ 16) × OpenIf book.now (dead (rules_in book.now)) (prefix_of q) places.now starts.now ends at rules (length hints.old) levels }
-    ensures { LooksIf book.now (dead (rules_in book.now)) (prefix_of q) places.now starts.now ends 0 levels result }
-{
-    if levels == 0 {
-        return Scanned {
-            allowed: 0,
-            at,
-            rules: 0,
-        };
-    }
-    look(book, places, hints, starts, ends, at, rules, q)
-}
-
-// The fronts below q, made shorter on the first three levels, if any level is gone into and any rule is entered.
-fn narrow_if(
-    book: &[u8],
-    places: &mut [u32],
-    hints: &mut [u8],
-    starts: &[u16],
-    ends: [u16; 16],
-    q: Cursor,
-    l: usize,
-    levels: usize,
-) -> [u16; 16]
-    requires { Plain q × (l ≤ 16) × Narrowable book.now places.old starts.now ends (length hints.old) }
-    ensures { Narrowed book.now (prefix_of q) places.old starts.now ends places.new result }
-{
-    if levels == 0 {
-        return ends;
-    }
-    if 3 < q.len {
-        return ends;
-    }
-    if starts[16] == 0 {
-        return ends;
-    }
-    narrow(book, places, hints, starts, ends, q, l)
-}
-
-// A walk, the value of the next setting at which it goes on, and what is known of the values from there on.
-#[derive(Clone, Copy)]
-pub struct Turned {
-    pub walk: Walk,
-    pub v: u8,
-    pub scan: Scanned,
-}
-
-// One value v after the live prefix cur: its visit, all that is below it, and the dead values behind it. s is the look below cur, for the
-// values from v on; from the run of rules in it those go that every value from v on meets.
-#[cycle(below_turn)]
-fn turn(
-    book: &[u8],
-    sizes: &[u8],
-    room: &mut [u8],
-    places: &mut [u32],
-    hints: &mut [u8],
-    starts: &[u16],
-    ends: [u16; 16],
-    w: Walk,
-    cur: Cursor,
-    s: Scanned,
-    v: u8,
-    levels: usize,
-    fit: usize,
-    budget: usize,
-) -> Turned
-    requires { Ready sizes.now room.old cur levels fit × Narrowable book.now places.old starts.now ends (length hints.old) × Looks book.now (dead (rules_in book.now)) (prefix_of cur) places.old starts.now ends v s × (cur.len + 1 < length sizes.now) × (0 < levels) × (v < get_or sizes.now cur.len 0) × (w.rows < fit) × (w.steps < budget) }
-    ensures { Turns (dead (rules_in book.now)) sizes.now cur levels fit budget w room.old v result.walk room.new result.v × Kept starts.now ends places.old places.new × Looks book.now (dead (rules_in book.now)) (prefix_of cur) places.new starts.now ends result.v result.scan }
-{
-    let allowed = s.allowed;
-    let next = push(cur, v);
-    let i = wide(v);
-    let dead = lacks(allowed, i);
-    let done = visit(w, next, dead, budget);
-    let deep = inward(dead, levels);
-    let run = trim(book, s.at, s.rules, cur.len, v);
-    let fronts = narrow_if(book, places, hints, starts, ends, next, sizes.len(), deep);
-    let more = look_if(
-        book, places, hints, starts, fronts, run.at, run.rules, next, deep,
-    );
-    let under = below(
-        book, sizes, room, places, hints, starts, fronts, done, next, more, 0, deep, fit, budget,
-    );
-    let on = skip(book, sizes, under, cur, allowed, v + 1, fit, budget);
-    let walk = on.walk;
-    Turned {
-        walk,
-        v: on.v,
-        scan: Scanned {
-            allowed,
-            at: run.at,
-            rules: run.rules,
-        },
-    }
-}
-
-// All that is visited below the live prefix cur, `levels` levels deep, from the value `from` on. s is the look below cur.
-#[cycle(below_turn)]
-fn below(
-    book: &[u8],
-    sizes: &[u8],
-    room: &mut [u8],
-    places: &mut [u32],
-    hints: &mut [u8],
-    starts: &[u16],
-    ends: [u16; 16],
-    w: Walk,
-    cur: Cursor,
-    s: Scanned,
-    from: u8,
-    levels: usize,
-    fit: usize,
-    budget: usize,
-) -> Walk
-    requires { Ready sizes.now room.old cur levels fit × Narrowable book.now places.old starts.now ends (length hints.old) × LooksIf book.now (dead (rules_in book.now)) (prefix_of cur) places.old starts.now ends from levels s }
-    ensures { (◌≡◌ {A = S} (result, room.new) (runs (dead (rules_in book.now)) (length sizes.now) fit budget (from_of (dead (rules_in book.now)) (part sizes.now cur.len levels) (prefix_of cur) from) (w, room.old))) × Kept starts.now ends places.old places.new }
-{
-    if levels == 0 {
-        return w;
-    }
-    let allowed = s.allowed;
-    let at = cur.len;
-    let l = sizes.len();
-    if at + 1 == l {
-        return leaves(book, sizes, room, w, cur, allowed, from, fit, budget);
-    }
-    let n = sizes[at];
-    let first = skip(book, sizes, w, cur, allowed, from, fit, budget);
-    let mut walk = first.walk;
-    let mut v = first.v;
-    let mut scan = s;
-    while v < n {
-        let filled = walk.rows;
-        let steps = walk.steps;
-        if fit <= filled {
-            return walk;
+impl Task<'_> {
+    // The look below q, where `run` holds the rules that matter beside the fronts, if any level is gone into.
+    fn look_if(
+        &self,
+        places: &[u32],
+        hints: &mut [u8],
+        ends: [u16; 16],
+        run: Run,
+        q: Cursor,
+        levels: usize,
+    ) -> Scanned
+        requires { Plain q × (q.len + levels ≤ 16) × OpenIf self.now.book.now (dead (rules_in self.now.book.now)) (prefix_of q) places.now self.now.starts.now ends run.at run.rules (length hints.old) levels }
+        ensures { LooksIf self.now.book.now (dead (rules_in self.now.book.now)) (prefix_of q) places.now self.now.starts.now ends 0 levels result }
+    {
+        if levels == 0 {
+            return Scanned {
+                allowed: 0,
+                at: run.at,
+                rules: 0,
+            };
         }
-        if budget <= steps {
-            return walk;
-        }
-        let on = turn(
-            book, sizes, room, places, hints, starts, ends, walk, cur, scan, v, levels, fit, budget,
-        );
-        walk = on.walk;
-        v = on.v;
-        scan = on.scan;
-    }
-    walk
-}
-
-// All that is visited below the live prefix cur and after c, of which cur is the beginning: below c's own next value, then from the
-// value after it on. What matters below cur: the fronts, and `rules` rules from place `at` on.
-pub fn resume(
-    book: &[u8],
-    sizes: &[u8],
-    room: &mut [u8],
-    places: &mut [u32],
-    hints: &mut [u8],
-    starts: &[u16],
-    ends: [u16; 16],
-    w: Walk,
-    c: Cursor,
-    cur: Cursor,
-    at: usize,
-    rules: usize,
-    levels: usize,
-    fit: usize,
-    budget: usize,
-) -> Walk
-    requires { Ready sizes.now room.old cur levels fit × Along sizes.now c cur levels × Narrowable book.now places.old starts.now ends (length hints.old) × Open book.now (dead (rules_in book.now)) (prefix_of cur) places.old starts.now ends at rules (length hints.old) }
-    ensures { (◌≡◌ {A = S} (result, room.new) (runs (dead (rules_in book.now)) (length sizes.now) fit budget (past_of (dead (rules_in book.now)) (part sizes.now cur.len levels) (prefix_of cur) (drop cur.len (prefix_of c))) (w, room.old))) × Kept starts.now ends places.old places.new }
-{
-    let s = look_if(book, places, hints, starts, ends, at, rules, cur, levels);
-    let len = cur.len;
-    if len == c.len {
-        return below(
-            book, sizes, room, places, hints, starts, ends, w, cur, s, 0, levels, fit, budget,
-        );
-    }
-    let values = c.values;
-    let v = values[len];
-    let next = push(cur, v);
-    let i = wide(v);
-    if lacks(s.allowed, i) {
-        return below(
-            book,
-            sizes,
-            room,
+        look(
+            self.book,
             places,
             hints,
-            starts,
+            self.starts,
             ends,
-            w,
-            cur,
-            s,
-            v + 1,
-            levels,
-            fit,
-            budget,
-        );
+            run.at,
+            run.rules,
+            q,
+        )
     }
-    let fronts = narrow_if(
-        book,
-        places,
-        hints,
-        starts,
-        ends,
-        next,
-        sizes.len(),
-        levels - 1,
-    );
-    let walk = resume(
-        book,
-        sizes,
-        room,
-        places,
-        hints,
-        starts,
-        fronts,
-        w,
-        c,
-        next,
-        s.at,
-        s.rules,
-        levels - 1,
-        fit,
-        budget,
-    );
-    if budget <= walk.steps {
-        return walk;
+
+    // The fronts below q, made shorter on the first three levels, if any level is gone into and any rule is entered.
+    fn narrow_if(
+        &self,
+        places: &mut [u32],
+        hints: &mut [u8],
+        ends: [u16; 16],
+        q: Cursor,
+        levels: usize,
+    ) -> [u16; 16]
+        requires { Plain q × (length self.now.sizes.now ≤ 16) × Narrowable self.now.book.now places.old self.now.starts.now ends (length hints.old) }
+        ensures { Narrowed self.now.book.now (prefix_of q) places.old self.now.starts.now ends places.new result }
+    {
+        if levels == 0 || 3 < q.len || self.starts[16] == 0 {
+            return ends;
+        }
+        narrow(
+            self.book,
+            places,
+            hints,
+            self.starts,
+            ends,
+            q,
+            self.sizes.len(),
+        )
     }
-    let rest = v + 1;
-    below(
-        book, sizes, room, places, hints, starts, ends, walk, cur, s, rest, levels, fit, budget,
-    )
+
+    // One value on.v after the live prefix cur: its visit, all that is below it, and the dead values behind it. on.scan is the look below
+    // cur, for the values from on.v on; from the run of rules in it those go that every value from on.v on meets.
+    #[cycle(below_turn)]
+    fn turn(
+        &self,
+        room: &mut [u8],
+        places: &mut [u32],
+        hints: &mut [u8],
+        ends: [u16; 16],
+        on: &Point,
+        cur: Cursor,
+        levels: usize,
+    ) -> Point
+        requires { Ready self.now.sizes.now room.old cur levels self.now.fit × Narrowable self.now.book.now places.old self.now.starts.now ends (length hints.old) × Looks self.now.book.now (dead (rules_in self.now.book.now)) (prefix_of cur) places.old self.now.starts.now ends on.now.v on.now.scan × (cur.len + 1 < length self.now.sizes.now) × (0 < levels) × (on.now.v < get_or self.now.sizes.now cur.len 0) × (on.now.walk.rows < self.now.fit) × (on.now.walk.steps < self.now.budget) }
+        ensures { Turns (dead (rules_in self.now.book.now)) self.now.sizes.now cur levels self.now.fit self.now.budget on.now.walk room.old on.now.v result.walk room.new result.v × Kept self.now.starts.now ends places.old places.new × Looks self.now.book.now (dead (rules_in self.now.book.now)) (prefix_of cur) places.new self.now.starts.now ends result.v result.scan }
+    {
+        let next = push(cur, on.v);
+        let dead = lacks(on.scan.allowed, usize::from(on.v));
+        let deep = inward(dead, levels);
+        let run = trim(self.book, on.scan.at, on.scan.rules, cur.len, on.v);
+        let fronts = self.narrow_if(places, hints, ends, next, deep);
+        let more = self.look_if(places, hints, fronts, run, next, deep);
+        let first = Point {
+            walk: Walk {
+                last: next,
+                dead,
+                steps: on.walk.steps + 1,
+                ..on.walk
+            },
+            v: 0,
+            scan: more,
+        };
+        let under = self.below(room, places, hints, fronts, &first, next, deep);
+        let behind = Point {
+            walk: under,
+            v: on.v + 1,
+            scan: Scanned {
+                at: run.at,
+                rules: run.rules,
+                ..on.scan
+            },
+        };
+        self.skip(&behind, cur)
+    }
+
+    // All that is visited below the live prefix cur, `levels` levels deep, from the value on.v on. on.scan is the look below cur.
+    #[cycle(below_turn)]
+    fn below(
+        &self,
+        room: &mut [u8],
+        places: &mut [u32],
+        hints: &mut [u8],
+        ends: [u16; 16],
+        on: &Point,
+        cur: Cursor,
+        levels: usize,
+    ) -> Walk
+        requires { Ready self.now.sizes.now room.old cur levels self.now.fit × Narrowable self.now.book.now places.old self.now.starts.now ends (length hints.old) × LooksIf self.now.book.now (dead (rules_in self.now.book.now)) (prefix_of cur) places.old self.now.starts.now ends on.now.v levels on.now.scan × (on.now.v ≤ get_or self.now.sizes.now cur.len 0) }
+        ensures { (◌≡◌ {A = S} (result, room.new) (runs (dead (rules_in self.now.book.now)) (length self.now.sizes.now) self.now.fit self.now.budget (from_of (dead (rules_in self.now.book.now)) (part self.now.sizes.now cur.len levels) (prefix_of cur) on.now.v) (on.now.walk, room.old))) × Kept self.now.starts.now ends places.old places.new }
+    {
+        if levels == 0 {
+            return on.walk;
+        }
+        let at = cur.len;
+        let l = self.sizes.len();
+        if at + 1 == l {
+            return self.leaves(room, on, cur);
+        }
+        let n = self.sizes[at];
+        let mut point = self.skip(on, cur);
+        while point.v < n {
+            if self.fit <= point.walk.rows || self.budget <= point.walk.steps {
+                return point.walk;
+            }
+            point = self.turn(room, places, hints, ends, &point, cur, levels);
+        }
+        point.walk
+    }
+
+    // All that is visited below the live prefix cur and after w's last prefix, of which cur is the beginning: below that prefix's own next
+    // value, then from the value after it on. What matters below cur: the fronts, and `run`.
+    pub fn resume(
+        &self,
+        room: &mut [u8],
+        places: &mut [u32],
+        hints: &mut [u8],
+        ends: [u16; 16],
+        run: Run,
+        w: Walk,
+        cur: Cursor,
+        levels: usize,
+    ) -> Walk
+        requires { Ready self.now.sizes.now room.old cur levels self.now.fit × Along self.now.sizes.now w.last cur levels × Narrowable self.now.book.now places.old self.now.starts.now ends (length hints.old) × Open self.now.book.now (dead (rules_in self.now.book.now)) (prefix_of cur) places.old self.now.starts.now ends run.at run.rules (length hints.old) }
+        ensures { (◌≡◌ {A = S} (result, room.new) (runs (dead (rules_in self.now.book.now)) (length self.now.sizes.now) self.now.fit self.now.budget (past_of (dead (rules_in self.now.book.now)) (part self.now.sizes.now cur.len levels) (prefix_of cur) (drop cur.len (prefix_of w.last))) (w, room.old))) × Kept self.now.starts.now ends places.old places.new }
+    {
+        let scan = self.look_if(places, hints, ends, run, cur, levels);
+        let len = cur.len;
+        let c = w.last;
+        if len == c.len {
+            let all = Point {
+                walk: w,
+                v: 0,
+                scan,
+            };
+            return self.below(room, places, hints, ends, &all, cur, levels);
+        }
+        let v = c.values[len];
+        let next = push(cur, v);
+        if lacks(scan.allowed, usize::from(v)) {
+            let rest = Point {
+                walk: w,
+                v: v + 1,
+                scan,
+            };
+            return self.below(room, places, hints, ends, &rest, cur, levels);
+        }
+        let fronts = self.narrow_if(places, hints, ends, next, levels - 1);
+        let inner = Run {
+            at: scan.at,
+            rules: scan.rules,
+        };
+        let walk = self.resume(room, places, hints, fronts, inner, w, next, levels - 1);
+        if self.budget <= walk.steps {
+            return walk;
+        }
+        let rest = Point {
+            walk,
+            v: v + 1,
+            scan,
+        };
+        self.below(room, places, hints, ends, &rest, cur, levels)
+    }
 }

@@ -1,5 +1,5 @@
+pub mod Chunks
+pub mod Known
 pub mod Limits
-pub mod Places
 pub mod Holding
-pub mod Number
 pub mod Scarce

@@ -1,12 +1,23 @@
 -- Inner: the words that only inner contracts cite.
-use Rattle.std.specs.Prelude.{ℕ, ◌+◌, ◌*◌, ◌≤◌, ◌<◌, Bool, true, false, cond, List, [], ◌∷◌, leb, eqb, length}
+use Rattle.std.specs.Prelude.{ℕ, ◌+◌, ◌*◌, ◌≤◌, ◌<◌, Bool, cond, List, [], ◌∷◌, Option, Some, None, leb, ltb, eqb, length}
 use Rattle.meaning.specs.Lists.{All}
-use Rattle.meaning.specs.Rules.{Literal, Rule, setting}
-use Rattle.meaning.specs.Bytes.{literals_at}
+use Rattle.meaning.specs.Rules.{Rule, setting}
+use Rattle.meaning.specs.Bytes.{literal, literals_at}
 
 -- the literal of sign g and bound d holds of the value v
 unfoldable pub holds_by : ℕ → ℕ → ℕ → Bool
 holds_by g d v = cond (eqb g 0) (leb v d) (leb d v)
+
+-- the literals of which these are the bytes, three each
+unfoldable pub literals_in : List ℕ → Rule
+literals_in (i ∷ g ∷ d ∷ b) = literal g i d ∷ literals_in b
+literals_in (i ∷ g ∷ []) = []
+literals_in (i ∷ []) = []
+literals_in [] = []
+
+-- the number k of what is found among c; c stands for nothing found
+abbrev pub found : ℕ → ℕ → Option ℕ
+found c k = cond (ltb k c) (Some k) None
 
 -- every setting of the rule is one of l
 abbrev pub Known : ℕ → Rule → Type 0
@@ -16,12 +27,3 @@ Known l r = All (λ c. setting c < l) r
 pub record Askable (b : List ℕ) (start c l : ℕ) : Type 0 where
   pub inside : start + 3 * c ≤ length b
   pub known : Known l (literals_at b start c)
-
-unfoldable pub one : Bool → ℕ
-one true = 1
-one false = 0
-
--- how many literals of the rule pass the test
-unfoldable pub number : (Literal → Bool) → Rule → ℕ
-number t [] = 0
-number t (c ∷ r) = one (t c) + number t r

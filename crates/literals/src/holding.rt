@@ -1,53 +1,46 @@
 // Which literals hold in a row. Every setting that is asked for is below the row's length.
-ghost use Rattle.std.specs.Prelude.{◌≡◌, ◌+◌, ◌≤◌, ◌<◌, length, get_or};
+ghost use Rattle.std.specs.Prelude.{◌≡◌, ◌≤◌, ◌<◌, length, get_or};
 ghost use Rattle.meaning.specs.Rules.{holds, met};
-ghost use Rattle.meaning.specs.Bytes.{literal_at, literals_at};
+ghost use Rattle.meaning.specs.Bytes.{literal_at};
 ghost use Rattle.meaning.specs.Inner.{first_held};
-ghost use Rattle.literals.specs.Inner.{holds_by, Askable};
-
-use crate::numbers::wide;
+ghost use Rattle.literals.specs.Inner.{holds_by, Known, literals_in, found};
 
 // Does the literal of this sign and bound hold of the value?
 pub fn holds(sign: u8, bound: u8, value: u8) -> bool
     ensures { result ≡ holds_by sign bound value }
 {
     if sign == 0 {
-        return value <= bound;
+        value <= bound
+    } else {
+        bound <= value
     }
-    bound <= value
 }
 
-// Does the literal at place p hold in the row?
-pub fn holds_at(book: &[u8], p: usize, row: &[u8]) -> bool
-    requires { (p + 3 ≤ length book.now) × (get_or book.now p 0 < length row.now) }
-    ensures { result ≡ holds (literal_at book.now p) row.now }
+// Does the literal of these bytes hold in the row?
+pub fn holds_in(literal: &[u8], row: &[u8]) -> bool
+    requires { (3 ≤ length literal.now) × (get_or literal.now 0 0 < length row.now) }
+    ensures { result ≡ holds (literal_at literal.now 0) row.now }
 {
-    let i = wide(book[p]);
-    holds(book[p + 1], book[p + 2], row[i])
+    holds(literal[1], literal[2], row[usize::from(literal[0])])
 }
 
-// The number of the first of c literals from `start` on that holds in the row; c, where none does.
-pub fn first_held(book: &[u8], start: usize, c: usize, row: &[u8]) -> usize
-    requires { Askable book.now start c (length row.now) }
-    ensures { result ≡ first_held (literals_at book.now start c) row.now }
+// The number of the first of the literals that holds in the row.
+pub fn first_held(literals: &[u8], row: &[u8]) -> Option<usize>
+    requires { Known (length row.now) (literals_in literals.now) }
+    ensures { result ≡ found (length (literals_in literals.now)) (first_held (literals_in literals.now) row.now) }
 {
-    let mut p = start;
-    let mut i: usize = 0;
-    while i < c {
-        let found = holds_at(book, p, row);
-        if found {
-            return i;
+    for (i, literal) in literals.chunks_exact(3).enumerate() {
+        if holds_in(literal, row) {
+            return Some(i);
         }
-        p += 3;
-        i += 1;
     }
-    i
+    None
 }
 
-// Does the row meet the rule of c literals from `start` on: does one of them hold?
-pub fn met(book: &[u8], start: usize, c: usize, row: &[u8]) -> bool
-    requires { Askable book.now start c (length row.now) }
-    ensures { result ≡ met (literals_at book.now start c) row.now }
+// Does the row meet the rule of these literals: does one of them hold?
+pub fn met(literals: &[u8], row: &[u8]) -> bool
+    requires { Known (length row.now) (literals_in literals.now) }
+    ensures { result ≡ met (literals_in literals.now) row.now }
 {
-    first_held(book, start, c, row) < c
+    first_held(literals, row).is_some()
 }

@@ -1,15 +1,17 @@
-// Literals where they stand in bytes, from a place on: does one hold, which of a rule's is the first that does, how many are
-// scarce, and where a rule's record ends. Also a number as a byte and back, and the limits.
+// The literals of a rule in bytes: does one hold, which is the first that does, how many are scarce, and where a rule's record
+// ends. Also the kinds that stand as numbers, by name, and the limits.
 //
 // Three bytes a literal: setting, sign (0 at most, 1 at least), bound.
 #![tactic(auto)]
 
 mod holding;
+mod kinds;
 mod numbers;
 mod records;
 mod scarcity;
 
-pub use holding::{first_held, holds, holds_at, met};
-pub use numbers::{limits, narrow, wide};
+pub use holding::{first_held, holds, holds_in, met};
+pub use kinds::{Family, Side, Sign};
+pub use numbers::limits;
 pub use records::{rule_end, rule_met};
 pub use scarcity::{scarce, scarces};

@@ -1,46 +1,30 @@
-// Which literals are scarce for a side, and how many: the positive ones for Horn and, where `high`, the negative ones for dual Horn.
-ghost use Rattle.std.specs.Prelude.{◌≡◌, ◌+◌, ◌*◌, ◌≤◌, length};
+// Which literals are scarce for a side, and how many: the positive ones for Horn, the negative ones for dual Horn.
+ghost use Rattle.std.specs.Prelude.{◌≡◌, ◌≤◌, length};
 ghost use Rattle.meaning.specs.Rules.{scarce, scarces};
-ghost use Rattle.meaning.specs.Bytes.{literal_at, literals_at};
-ghost use Rattle.meaning.specs.Inner.{side_of};
-ghost use Rattle.literals.specs.Inner.{one};
+ghost use Rattle.meaning.specs.Bytes.{literal_at};
+ghost use Rattle.literals.specs.Inner.{literals_in};
+ghost use Rattle.literals.specs.Kinds.{side_of};
 
-// Is the literal at place p scarce?
-pub fn scarce(book: &[u8], p: usize, high: bool) -> bool
-    requires { p + 3 ≤ length book.now }
-    ensures { result ≡ scarce (side_of high) (literal_at book.now p) }
+use crate::kinds::Side;
+
+// Is the literal of these bytes scarce?
+pub fn scarce(literal: &[u8], side: Side) -> bool
+    requires { 3 ≤ length literal.now }
+    ensures { result ≡ scarce (side_of side) (literal_at literal.now 0) }
 {
-    let sign = book[p + 1];
-    if high {
-        return sign == 0;
+    match side {
+        Side::Low => literal[1] != 0,
+        Side::High => literal[1] == 0,
     }
-    sign != 0
 }
 
-// 1 for a scarce literal at place p, 0 for another.
-fn scarce_one(book: &[u8], p: usize, high: bool) -> usize
-    requires { p + 3 ≤ length book.now }
-    ensures { result ≡ one (scarce (side_of high) (literal_at book.now p)) }
+// How many of the literals are scarce.
+pub fn scarces(literals: &[u8], side: Side) -> usize
+    ensures { result ≡ scarces (side_of side) (literals_in literals.now) }
 {
-    if scarce(book, p, high) {
-        return 1;
+    let mut count = 0;
+    for literal in literals.chunks_exact(3) {
+        count += usize::from(scarce(literal, side));
     }
-    0
-}
-
-// How many of c literals from `start` on are scarce.
-pub fn scarces(book: &[u8], start: usize, c: usize, high: bool) -> usize
-    requires { start + 3 * c ≤ length book.now }
-    ensures { result ≡ scarces (side_of high) (literals_at book.now start c) }
-{
-    let mut k: usize = 0;
-    let mut p = start;
-    let mut i: usize = 0;
-    while i < c {
-        let more = scarce_one(book, p, high);
-        k += more;
-        p += 3;
-        i += 1;
-    }
-    k
+    count
 }

@@ -8,63 +8,97 @@ mod sending;
 mod slots;
 mod writing;
 
-ghost use Rattle.std.specs.Prelude.{◌≡◌, List, ℕ, ◌/◌, ◌≤◌, length};
+ghost use Rattle.std.specs.Prelude.{◌≡◌, List, ℕ, ◌/◌, ◌≤◌, length, Result};
 ghost use Rattle.tables.specs.Check.{Passes};
+ghost use Rattle.makers.specs.declared.Unmade.TheVariants.{Flawed};
 ghost use Rattle.makers.specs.Made.{book_alike, closed_of, made_of};
 
-use crate::writing::book;
-use literals::narrow;
-use tables::{Checked, Closure, Flaw, check, open_rows};
+use crate::rows::Source;
+use literals::Family;
+use tables::{Flaw, Open, check, open_rows};
 
-// What making a book gives: its length and number of rules, or the first of refusals 1 to 8.
+// How long a book is, and its number of rules.
 #[derive(Clone, Copy)]
-pub enum Made {
-    Book { length: usize, rules: usize },
+pub struct Made {
+    pub length: usize,
+    pub rules: usize,
+}
+
+// Why no book is made: the first of refusals 1 to 8.
+#[derive(Clone, Copy)]
+pub enum Unmade {
     // refusals 1 to 5
     Flawed(Flaw),
     Family,
-    // the first pair of rows whose minimum or maximum is no row
-    Pair(usize, usize),
-    // the first triple of rows whose median is no row
-    Triple(usize, usize, usize),
+    // the first rows that show that the table is not closed for the family
+    Open(Open),
     // the length needed
     Room(usize),
 }
 
+impl From<Flaw> for Unmade {
+    ghost from_gives = { λ flaw e. e ≡ Flawed flaw };
+
+    fn from(flaw: Flaw) -> Unmade {
+        Unmade::Flawed(flaw)
+    }
+}
+
 // The book of a sound table over l settings of n values each, in a family that it is closed for; or refusal 8.
-fn make_alike(n: usize, l: usize, family: usize, table: &[u8], room: &mut [u8]) -> Made
+fn make_alike(
+    n: usize,
+    l: usize,
+    family: usize,
+    table: &[u8],
+    room: &mut [u8],
+) -> Result<Made, Unmade>
     requires { Passes n l table.now (length table.now / l) × (family ≤ 3) }
-    ensures { ◌≡◌ {A = Made × List ℕ} (result, room.new) (book_alike n l family table.now room.old) }
+    ensures { ◌≡◌ {A = Result Made Unmade × List ℕ} (result, room.new) (book_alike n l family table.now room.old) }
 {
-    let space = [narrow(n); 16];
-    let sizes = &space[..l];
-    book(n, sizes, family, table, room)
+    let space = [n as u8; 16];
+    let source = Source {
+        n,
+        sizes: &space[..l],
+        family: Family::of(family),
+        table,
+        rows: table.len() / l,
+    };
+    source.book(room)
 }
 
 // The book of a sound table, or the first of refusals 6 to 8.
 #[tactic(auto, using(crate::proofs::laws::Refusals::closed_family))]
-fn make_checked(n: usize, l: usize, family: usize, table: &[u8], room: &mut [u8]) -> Made
+fn make_checked(
+    n: usize,
+    l: usize,
+    family: usize,
+    table: &[u8],
+    room: &mut [u8],
+) -> Result<Made, Unmade>
     requires { Passes n l table.now (length table.now / l) }
-    ensures { ◌≡◌ {A = Made × List ℕ} (result, room.new) (closed_of n l family table.now room.old) }
+    ensures { ◌≡◌ {A = Result Made Unmade × List ℕ} (result, room.new) (closed_of n l family table.now room.old) }
 {
     if 3 < family {
-        return Made::Family;
+        return Err(Unmade::Family);
     }
     match open_rows(family, table, l) {
-        Closure::Closed => make_alike(n, l, family, table, room),
-        Closure::Pair(i, j) => Made::Pair(i, j),
-        Closure::Triple(i, j, k) => Made::Triple(i, j, k),
+        Some(open) => Err(Unmade::Open(open)),
+        None => make_alike(n, l, family, table, room),
     }
 }
 
 // Makes the book of a table of rows of l values below n, in a family: 0 general, 1 Horn, 2 dual Horn, 3 bijunctive.
 // Success writes exactly the book at the start of the room and gives its length and number of rules; the bytes beyond it
 // stay. Otherwise gives the first of refusals 1 to 8, and nothing is written.
-pub fn make(n: usize, l: usize, family: usize, table: &[u8], room: &mut [u8]) -> Made
-    ensures { ◌≡◌ {A = Made × List ℕ} (result, room.new) (made_of n l family table.now room.old) }
+pub fn make(
+    n: usize,
+    l: usize,
+    family: usize,
+    table: &[u8],
+    room: &mut [u8],
+) -> Result<Made, Unmade>
+    ensures { ◌≡◌ {A = Result Made Unmade × List ℕ} (result, room.new) (made_of n l family table.now room.old) }
 {
-    match check(n, l, table) {
-        Checked::Sound(_) => make_checked(n, l, family, table, room),
-        Checked::Flawed(f) => Made::Flawed(f),
-    }
+    check(n, l, table)?;
+    make_checked(n, l, family, table, room)
 }

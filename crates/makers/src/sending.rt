@@ -1,28 +1,25 @@
 // Sending rules to a book: its length and number of rules so far, and the record of each, written where it fits.
-ghost use Rattle.std.specs.Prelude.{◌≡◌, ◌≤◌};
-ghost use Rattle.reducing.specs.Inner.{rule_in, Sane};
-ghost use Rattle.makers.specs.Inner.{State, send};
+ghost use Rattle.std.specs.Prelude.{◌≤◌};
+ghost use Rattle.makers.specs.Inner.{IsSent};
 
+use crate::Made;
 use books::put_rule;
 use reducing::Hand;
 
-// How far a book has come.
-#[derive(Clone, Copy)]
-pub struct Tally {
-    pub length: usize,
-    pub rules: usize,
+// A book that is being written: the room for it, and what is made of it so far.
+#[derive(Drop)]
+pub struct Draft<'r> {
+    pub room: &'r mut [u8],
+    pub made: Made,
 }
 
-// Writes the record of the rule in hand where it fits, and counts it in any case.
-pub fn send(h: Hand, room: &mut [u8], tally: Tally) -> Tally
-    requires { Sane h × (tally.length ≤ 4294967295) × (tally.rules ≤ 4294967295) }
-    ensures { ◌≡◌ {A = State} (result, room.new) (send (rule_in h) (tally, room.old)) }
-{
-    let bytes = h.bytes;
-    let end = 3 * h.count;
-    let length = put_rule(room, tally.length, &bytes[..end]);
-    Tally {
-        length: length,
-        rules: tally.rules + 1,
+impl Draft<'_> {
+    // Writes the record of the rule where it fits, and counts it in any case.
+    pub fn send(&mut self, rule: &Hand)
+        requires { (self.old.made.length ≤ 4294967295) × (self.old.made.rules ≤ 4294967295) }
+        ensures { IsSent rule.now self.old self.new }
+    {
+        self.made.length = put_rule(self.room, self.made.length, rule.literals());
+        self.made.rules += 1;
     }
 }

@@ -1,9 +1,11 @@
+pub mod Written
+pub mod Rows
 pub mod Hand
-pub mod Known
-pub mod Pass
 pub mod Change
 pub mod Counts
+pub mod Passed
 pub mod Counted
-pub mod Reduced
+pub mod Trim
 pub mod Joined
-pub mod Chosen
+pub mod Kept
+pub mod Reduced

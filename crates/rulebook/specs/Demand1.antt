@@ -1,5 +1,5 @@
 -- Demand 1: every call takes any bytes and refuses by number, in document 01's order, giving what document 01's table says.
-use Rattle.std.specs.Prelude.{ℕ, zero, suc, ◌/◌, ◌%◌, ◌≡◌, ◌≢◌, Bool, true, false, not, ◌||◌, List, [], ◌∷◌, ◌++◌, leb, eqb}
+use Rattle.std.specs.Prelude.{ℕ, zero, suc, ◌/◌, ◌%◌, ◌≡◌, ◌≢◌, Bool, true, false, not, ◌||◌, List, [], ◌∷◌, ◌++◌, leb, eqb, Result, Ok, Err}
 use Rattle.std.proofs.Math.Path.{refl, sym}
 use Rattle.std.proofs.Common.{ap, ◌∙◌}
 use Rattle.std.proofs.Math.Bool.{cond}
@@ -12,17 +12,16 @@ use Rattle.meaning.proofs.Alike.{alike_length}
 use Rattle.meaning.specs.Closed.{or_else, unless, open_rows, FirstOpenFor}
 use Rattle.tables.specs.declared.Flaw.{Flaw}
 use Rattle.tables.specs.declared.Flaw.TheVariants.{Limits}
-use Rattle.tables.specs.declared.Checked.{Checked}
-use Rattle.tables.specs.declared.Checked.TheVariants.{Sound, Flawed}
 use Rattle.tables.specs.Check.{first_high, first_low, row_flaw_of, flaw_of, answer, checked_of, values_of}
 use Rattle.tables.proofs.laws.Firsts.{high_some, low_some}
 use Rattle.meaning.specs.Rules.{Rule}
 use Rattle.meaning.proofs.Given.{open_first}
+use Rattle.makers.specs.declared.Unmade.TheVariants.{Open}
 use Rattle.makers.specs.Made.{number_of, rules_made, bytes_made, fitting, unless_flawed, open_as, unless_open, book_alike, closed_of, made_of}
 use Rattle.makers.proofs.laws.Cases.{made_stays}
 use Rattle.meaning.specs.Bytes.{rules_in}
-use Rattle.books.specs.declared.Reading.{Reading}
-use Rattle.books.specs.declared.Reading.TheVariants.{Book, Faulty}
+use Rattle.books.specs.declared.Fault.{Fault}
+use Rattle.books.specs.declared.Head.{Head}
 use Rattle.books.specs.Faults as faults
 use Rattle.books.specs.Format.{read_of}
 use Rattle.books.specs.Tested.{judge_of, judge_read, tested_of, first_unmet, first_over}
@@ -53,9 +52,9 @@ table_refusals n l table =
     ∷ []
 
 -- what a check tells, where t is told of a sound table
-abbrev pub after_check : Checked → Told → Told
-after_check (Sound k) t = t
-after_check (Flawed f) t = flaw_told f
+abbrev pub after_check : Result ℕ Flaw → Told → Told
+after_check (Ok k) t = t
+after_check (Err f) t = flaw_told f
 
 module _ (ns : List ℕ) (table : List ℕ) (rows : List Row) (k : ℕ) (t : Told) where
   values_told : after_check (answer k (or_else (first_high ns table) (first_low rows))) t
@@ -99,7 +98,7 @@ numbers none = []
 numbers (some rows) = rows
 
 -- two row numbers are told as a pair, three as a triple
-pub open_told : (family : ℕ) (rows : List Row) (r : List ℕ) → FirstOpenFor family rows r → made_told (open_as r) ≡ (7, r)
+pub open_told : (family : ℕ) (rows : List Row) (r : List ℕ) → FirstOpenFor family rows r → made_told (Err (Open (open_as r))) ≡ (7, r)
 open_told zero rows r c = absurd c
 open_told (suc zero) rows r c = rw c.found
 open_told (suc (suc zero)) rows r c = rw c.found
@@ -147,10 +146,10 @@ module _ (n l family : ℕ) (table room : List ℕ) where
           ≡ first_of (table_refusals n l table ++ book_refusals) (0, length book ∷ length rules ∷ [])
       whole = check_told_then n l table (first_of book_refusals (0, length book ∷ length rules ∷ [])) ∙ sym (first_of_append (table_refusals n l table) book_refusals _)
 
-      go : (c : Checked) → checked_of n l table ≡ c
+      go : (c : Result ℕ Flaw) → checked_of n l table ≡ c
           → made_told (unless_flawed c room (closed_of n l family table room)).0 ≡ first_of (table_refusals n l table ++ book_refusals) (0, length book ∷ length rules ∷ [])
-      go (Sound k) e = book_told ∙ sym (ap (λ (c : Checked). after_check c (first_of book_refusals (0, length book ∷ length rules ∷ []))) e) ∙ whole
-      go (Flawed f) e = sym (ap (λ (c : Checked). after_check c (first_of book_refusals (0, length book ∷ length rules ∷ []))) e) ∙ whole
+      go (Ok k) e = book_told ∙ sym (ap (λ (c : Result ℕ Flaw). after_check c (first_of book_refusals (0, length book ∷ length rules ∷ []))) e) ∙ whole
+      go (Err f) e = sym (ap (λ (c : Result ℕ Flaw). after_check c (first_of book_refusals (0, length book ∷ length rules ∷ []))) e) ∙ whole
 
   -- 'changing no lent byte': a refusal leaves the room as it was
   pub make_unchanged : number_of (made_of n l family table room).0 ≢ 0 → (made_of n l family table room).1 ≡ room
@@ -159,14 +158,14 @@ module _ (n l family : ℕ) (table room : List ℕ) where
 -- ---- read and test: book faults, then 16, 17
 
 -- a book's fault as the refusal that comes first
-abbrev pub fault_first : Reading → List Refusal
-fault_first (Book n l family rules) = []
-fault_first (Faulty f) = (faults.number_of f, true, faults.values_of f) ∷ []
+abbrev pub fault_first : Result Head Fault → List Refusal
+fault_first (Ok h) = []
+fault_first (Err f) = (faults.number_of f, true, faults.values_of f) ∷ []
 
 -- what comes after an accepted head
-abbrev pub if_accepted : {A : Type 0} → Reading → (ℕ → ℕ → A) → A → A
-if_accepted (Book n l family rules) f a = f n l
-if_accepted (Faulty g) f a = a
+abbrev pub if_accepted : {A : Type 0} → Result Head Fault → (ℕ → ℕ → A) → A → A
+if_accepted (Ok h) f a = f h.n h.l
+if_accepted (Err g) f a = a
 
 -- 16 its length, 17 the place of its first value outside its size
 abbrev pub combination_refusals : Row → ℕ → ℕ → List Refusal
@@ -184,11 +183,11 @@ pub test_told : (b : List ℕ) (x : Row)
 unfolding tested_of judge_of first_of
 test_told b x = go (read_of b)
   where
-    go : (r : Reading) → tested_told (judge_read b x r) ≡ first_of (fault_first r ++ if_accepted r (combination_refusals x) []) (verdict_told b x)
-    go (Faulty f) = refl
-    go (Book n l family rules) = rw (alike_length n l) (elim (case (eqb (length x) l)) [
+    go : (r : Result Head Fault) → tested_told (judge_read b x r) ≡ first_of (fault_first r ++ if_accepted r (combination_refusals x) []) (verdict_told b x)
+    go (Err f) = refl
+    go (Ok h) = rw (alike_length h.n h.l) (elim (case (eqb (length x) h.l)) [
       | isnt e ↦ rw e
-      | is e ↦ rw e (elim (case (ltb (first_over (alike n l) x) (length x))) [
+      | is e ↦ rw e (elim (case (ltb (first_over (alike h.n h.l) x) (length x))) [
         | is f ↦ rw f
         | isnt f ↦ rw f (elim (case (ltb (first_unmet (rules_in b) x) (length (rules_in b)))) [ is g ↦ rw g | isnt g ↦ rw g ])
       ])
@@ -216,12 +215,12 @@ module _ (b : List ℕ) (c : Cursor) (budget : ℕ) (room : List ℕ) where
   unfolding page_of page_by page_in listed_in first_of
   page_is_told = go (read_of b)
     where
-      go : (r : Reading) → outcome_told (page_by b r c budget room).0.outcome
+      go : (r : Result Head Fault) → outcome_told (page_by b r c budget room).0.outcome
           ≡ first_of (fault_first r ++ if_accepted r (page_refusals c budget room) []) (if_accepted r (page_told b c budget room) (0, []))
-      go (Faulty f) = refl
-      go (Book n l family rules) = rw (alike_length n l) (elim (case (cursor_ok (alike n l) c)) [
+      go (Err f) = refl
+      go (Ok h) = rw (alike_length h.n h.l) (elim (case (cursor_ok (alike h.n h.l) c)) [
         | isnt e ↦ rw e
-        | is e ↦ rw e (elim (case (ltb (length room) l)) [
+        | is e ↦ rw e (elim (case (ltb (length room) h.l)) [
           | is f ↦ rw f
           | isnt f ↦ rw f (elim (case (eqb budget 0 || ltb 65535 budget)) [ is g ↦ rw g | isnt g ↦ rw g ])
         ])
@@ -232,11 +231,11 @@ module _ (b : List ℕ) (c : Cursor) (budget : ℕ) (room : List ℕ) where
   unfolding page_of page_by page_in listed_in
   page_unchanged = go (read_of b)
     where
-      go : (r : Reading) → (outcome_told (page_by b r c budget room).0.outcome).0 ≢ 0 → ((page_by b r c budget room).0.cursor ≡ c) × ((page_by b r c budget room).1 ≡ room)
-      go (Faulty f) = λ h. (refl, refl)
-      go (Book n l family rules) = elim (case (cursor_ok (alike n l) c)) [
+      go : (r : Result Head Fault) → (outcome_told (page_by b r c budget room).0.outcome).0 ≢ 0 → ((page_by b r c budget room).0.cursor ≡ c) × ((page_by b r c budget room).1 ≡ room)
+      go (Err f) = λ h. (refl, refl)
+      go (Ok d) = elim (case (cursor_ok (alike d.n d.l) c)) [
         | isnt e ↦ rw e (λ h. (refl, refl))
-        | is e ↦ rw e (elim (case (ltb (length room) (length (alike n l)))) [
+        | is e ↦ rw e (elim (case (ltb (length room) (length (alike d.n d.l)))) [
           | is f ↦ rw f (λ h. (refl, refl))
           | isnt f ↦ rw f (elim (case (eqb budget 0 || ltb 65535 budget)) [ is g ↦ rw g (λ h. (refl, refl)) | isnt g ↦ rw g (λ h. absurd (h refl)) ])
         ])

@@ -13,12 +13,10 @@ use Rattle.meaning.proofs.Bounds as bounds
 use Rattle.meaning.proofs.Converse.{has_closed}
 use Rattle.meaning.specs.Bytes.{encode, rules_in, WellFormed}
 use Rattle.meaning.proofs.Encoded.{encoded_rules}
-use Rattle.books.specs.declared.Reading.TheVariants.{Book}
-use Rattle.books.specs.declared.Tested.TheVariants.{Permitted}
-use Rattle.books.specs.Format.{read_of}
+use Rattle.books.specs.Format.{Book, read_of}
 use Rattle.books.proofs.laws.Written as books
 use Rattle.books.proofs.laws.Accepted as accepted
-use Rattle.books.specs.Tested.{tested_of}
+use Rattle.books.specs.Tested.{Permitted, tested_of}
 use Rattle.books.proofs.laws.Tested.{tested_permitted}
 use Rattle.makers.specs.Made.{number_of, rules_made, bytes_made, made_of, Tested, Grants}
 use Rattle.makers.proofs.laws.Cases.{Makes, flawed, unknown, unclosed, narrow, given, made_cases}

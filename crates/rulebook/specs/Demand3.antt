@@ -9,8 +9,7 @@ use Rattle.meaning.specs.Listing.{dead, combinations, visits, after, Visited}
 use Rattle.meaning.proofs.Dead as deadness
 use Rattle.meaning.proofs.Visited as visited
 use Rattle.meaning.proofs.Shown as shown
-use Rattle.books.specs.declared.Reading.TheVariants.{Book}
-use Rattle.books.specs.Format.{read_of}
+use Rattle.books.specs.Format.{Book, read_of}
 use Rattle.listing.specs.Cursors.{cursor_of, prefix_of}
 use Rattle.listing.specs.Pages.{page_of}
 use Rattle.listing.proofs.laws.Promise as promise

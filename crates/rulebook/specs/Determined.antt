@@ -1,14 +1,16 @@
 -- Determined: for each public call, any two outcomes that its contract allows are equal, the lent bytes at exit among them.
-use Rattle.std.specs.Prelude.{ℕ, ◌≡◌, List, []}
+use Rattle.std.specs.Prelude.{ℕ, ◌≡◌, List, [], Option, Result}
 use Rattle.std.proofs.Common.{sym, ◌∙◌}
 use Rattle.std.specs.Borrow.{Bor}
 use Rattle.meaning.specs.Rows.{Row}
-use Rattle.tables.specs.declared.Checked.{Checked}
+use Rattle.tables.specs.declared.Flaw.{Flaw}
 use Rattle.tables.specs.Check.{checked_of}
 use Rattle.makers.specs.declared.Made.{Made}
+use Rattle.makers.specs.declared.Unmade.{Unmade}
 use Rattle.makers.specs.Made.{made_of}
-use Rattle.books.specs.declared.Reading.{Reading}
-use Rattle.books.specs.declared.Tested.{Tested}
+use Rattle.books.specs.declared.Fault.{Fault}
+use Rattle.books.specs.declared.Head.{Head}
+use Rattle.books.specs.declared.Untested.{Untested}
 use Rattle.books.specs.declared.part.RulePart.{RulePart}
 use Rattle.books.specs.Format.{read_of}
 use Rattle.books.specs.Tested.{tested_of}
@@ -21,17 +23,17 @@ use Rattle.listing.specs.Pages.{P, page_of}
 pub alone : {A : Type 0} (a r s : A) → r ≡ a → s ≡ a → r ≡ s
 alone a r s p q = p ∙ sym q
 
-pub check_determined : (n l : ℕ) (table : List ℕ) (r s : Checked) → r ≡ checked_of n l table → s ≡ checked_of n l table → r ≡ s
+pub check_determined : (n l : ℕ) (table : List ℕ) (r s : Result ℕ Flaw) → r ≡ checked_of n l table → s ≡ checked_of n l table → r ≡ s
 check_determined n l table = alone (checked_of n l table)
 
 -- the answer and the room at exit
-pub make_determined : (n l family : ℕ) (table room : List ℕ) (r s : Made × List ℕ) → r ≡ made_of n l family table room → s ≡ made_of n l family table room → r ≡ s
+pub make_determined : (n l family : ℕ) (table room : List ℕ) (r s : Result Made Unmade × List ℕ) → r ≡ made_of n l family table room → s ≡ made_of n l family table room → r ≡ s
 make_determined n l family table room = alone (made_of n l family table room)
 
-pub read_determined : (book : List ℕ) (r s : Reading) → r ≡ read_of book → s ≡ read_of book → r ≡ s
+pub read_determined : (book : List ℕ) (r s : Result Head Fault) → r ≡ read_of book → s ≡ read_of book → r ≡ s
 read_determined book = alone (read_of book)
 
-pub test_determined : (book : List ℕ) (x : Row) (r s : Tested) → r ≡ tested_of book x → s ≡ tested_of book x → r ≡ s
+pub test_determined : (book : List ℕ) (x : Row) (r s : Result (Option ℕ) Untested) → r ≡ tested_of book x → s ≡ tested_of book x → r ≡ s
 test_determined book x = alone (tested_of book x)
 
 pub rule_part_determined : (book : List ℕ) (number : ℕ) (r s : RulePart) → r ≡ part_where book number → s ≡ part_where book number → r ≡ s

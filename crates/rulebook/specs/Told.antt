@@ -1,19 +1,18 @@
 -- What each call tells: document 01's number, 0 for success, and the values that it gives, in their order.
-use Rattle.std.specs.Prelude.{ℕ, ◌≡◌, refl, Bool, cond, List, [], ◌∷◌, ◌++◌}
+use Rattle.std.specs.Prelude.{ℕ, ◌≡◌, refl, Bool, cond, List, [], ◌∷◌, ◌++◌, Option, Some, None, Result, Ok, Err}
 use Rattle.tables.specs.declared.Flaw.{Flaw}
-use Rattle.tables.specs.declared.Checked.{Checked}
-use Rattle.tables.specs.declared.Checked.TheVariants.{Sound, Flawed}
 use Rattle.tables.specs.Check as check
 use Rattle.makers.specs.declared.Made.{Made}
+use Rattle.makers.specs.declared.Unmade.{Unmade}
 use Rattle.makers.specs.Made as made
 use Rattle.books.specs.declared.Fault.{Fault}
-use Rattle.books.specs.declared.Reading.{Reading}
-use Rattle.books.specs.declared.Reading.TheVariants.{Book, Faulty}
-use Rattle.books.specs.declared.Tested.{Tested}
-use Rattle.books.specs.declared.Tested.TheVariants.{Permitted, NotMet, Faulty as Refused, Length, Value}
+use Rattle.books.specs.declared.Head.{Head}
+use Rattle.books.specs.declared.Untested.{Untested}
+use Rattle.books.specs.declared.Untested.TheVariants.{Faulty, Length, Value}
 use Rattle.books.specs.Faults as faults
-use Rattle.listing.specs.declared.paging.Outcome.{Outcome}
-use Rattle.listing.specs.declared.paging.Outcome.TheVariants.{Listed, BadCursor, NoRoom, BadBudget, Faulty as Unread}
+use Rattle.listing.specs.declared.paging.Listed.{Listed}
+use Rattle.listing.specs.declared.paging.Unlisted.{Unlisted}
+use Rattle.listing.specs.declared.paging.Unlisted.TheVariants.{BadCursor, NoRoom, BadBudget, Faulty as Unread}
 
 abbrev pub Told : Type 0
 Told = ℕ × List ℕ
@@ -25,34 +24,34 @@ abbrev pub fault_told : Fault → Told
 fault_told f = (faults.number_of f, faults.values_of f)
 
 -- the number of rows
-abbrev pub checked_told : Checked → Told
-checked_told (Sound k) = (0, k ∷ [])
-checked_told (Flawed f) = flaw_told f
+abbrev pub checked_told : Result ℕ Flaw → Told
+checked_told (Ok k) = (0, k ∷ [])
+checked_told (Err f) = flaw_told f
 
 -- the book's length and its number of rules
-abbrev pub made_told : Made → Told
+abbrev pub made_told : Result Made Unmade → Told
 made_told m = (made.number_of m, made.values_of m)
 
 -- n, l, family and number of rules
-abbrev pub reading_told : Reading → Told
-reading_told (Book n l family rules) = (0, n ∷ l ∷ family ∷ rules ∷ [])
-reading_told (Faulty f) = fault_told f
+abbrev pub reading_told : Result Head Fault → Told
+reading_told (Ok h) = (0, h.n ∷ h.l ∷ h.family ∷ h.rules ∷ [])
+reading_told (Err f) = fault_told f
 
 -- 1 if permitted, else 0 and the number of the first rule not met
-abbrev pub tested_told : Tested → Told
-tested_told Permitted = (0, 1 ∷ [])
-tested_told (NotMet k) = (0, 0 ∷ k ∷ [])
-tested_told (Refused f) = fault_told f
-tested_told Length = (16, [])
-tested_told (Value p) = (17, p ∷ [])
+abbrev pub tested_told : Result (Option ℕ) Untested → Told
+tested_told (Ok None) = (0, 1 ∷ [])
+tested_told (Ok (Some k)) = (0, 0 ∷ k ∷ [])
+tested_told (Err (Faulty f)) = fault_told f
+tested_told (Err Length) = (16, [])
+tested_told (Err (Value p)) = (17, p ∷ [])
 
 -- the number of rows, of steps, and 1 if finished
-abbrev pub outcome_told : Outcome → Told
-outcome_told (Listed rows steps finished) = (0, rows ∷ steps ∷ cond finished 1 0 ∷ [])
-outcome_told (Unread f) = fault_told f
-outcome_told BadCursor = (18, [])
-outcome_told BadBudget = (19, [])
-outcome_told NoRoom = (20, [])
+abbrev pub outcome_told : Result Listed Unlisted → Told
+outcome_told (Ok p) = (0, p.rows ∷ p.steps ∷ cond p.finished 1 0 ∷ [])
+outcome_told (Err (Unread f)) = fault_told f
+outcome_told (Err BadCursor) = (18, [])
+outcome_told (Err BadBudget) = (19, [])
+outcome_told (Err NoRoom) = (20, [])
 
 -- ---- refusals in order
 

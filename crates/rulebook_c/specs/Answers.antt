@@ -1,6 +1,7 @@
 -- Answers: what a call tells, as C gets it.
-use Rattle.std.specs.Prelude.{ℕ, ◌-◌, List, ◌++◌, length, replicate, ◌≡◌}
+use Rattle.std.specs.Prelude.{ℕ, ◌-◌, List, ◌++◌, length, replicate, ◌≡◌, Result}
 use Rattle.makers.specs.declared.Made.{Made}
+use Rattle.makers.specs.declared.Unmade.{Unmade}
 use Rattle.listing.specs.declared.paging.Paged.{Paged}
 use Rattle.rulebook.specs.Told.{Told, made_told, outcome_told}
 use Rattle.rulebook_c.specs.declared.answers.Answer.{Answer}
@@ -11,7 +12,7 @@ abbrev pub answer_of : Told → Answer
 answer_of t = record { number = t.0; gives = t.1 ++ replicate (4 - length t.1) 0 }
 
 -- what making gives: the answer, and the bytes of the room
-abbrev pub made_answer : Made × List ℕ → Answer × List ℕ
+abbrev pub made_answer : Result Made Unmade × List ℕ → Answer × List ℕ
 made_answer m = (answer_of (made_told m.0), m.1)
 
 -- what a page gives: the answer with the cursor, and the bytes of the room

@@ -1,9 +1,9 @@
 // Answers as C gets them: document 01's number, and what the call or the refusal gives.
-ghost use Rattle.std.specs.Prelude.{◌≡◌, cond, [], ◌∷◌};
+ghost use Rattle.std.specs.Prelude.{◌≡◌, ◌≤◌};
 ghost use Rattle.rulebook.specs.Told.{checked_told, fault_told, flaw_told, made_told, outcome_told, reading_told, tested_told};
 ghost use Rattle.rulebook_c.specs.Answers.{answer_of, paged_of};
 
-use rulebook::{Checked, Cursor, Fault, Flaw, Made, Outcome, Paged, Reading, Tested};
+use rulebook::{Cursor, Fault, Flaw, Head, Listed, Made, Open, Paged, Unlisted, Unmade, Untested};
 
 // 0 for success, else the refusal; and four values, zeros behind those that are given.
 #[repr(C)]
@@ -21,128 +21,126 @@ pub struct PageAnswer {
     pub cursor: Cursor,
 }
 
-// A number, and what it gives, zeros behind it.
-fn tell(number: usize, a: usize, b: usize, c: usize, d: usize) -> Answer
-    ensures { result ≡ answer_of (number, a ∷ b ∷ c ∷ d ∷ []) }
+// A number, and what it gives.
+fn tell<const N: usize>(number: usize, given: [usize; N]) -> Answer
+    requires { N ≤ 4 }
+    ensures { result ≡ answer_of (number, given.entry) }
 {
-    Answer {
-        number,
-        gives: [a, b, c, d],
-    }
+    let mut gives = [0; 4];
+    gives[..N].copy_from_slice(&given);
+    Answer { number, gives }
 }
 
 // What is wrong with a table.
-fn flaw(f: Flaw) -> Answer
-    ensures { result ≡ answer_of (flaw_told f) }
-{
-    match f {
-        Flaw::Limits => tell(1, 0, 0, 0, 0),
-        Flaw::Length => tell(2, 0, 0, 0, 0),
-        Flaw::Rows(k) => tell(3, k, 0, 0, 0),
-        Flaw::Value(p) => tell(4, p, 0, 0, 0),
-        Flaw::Order(k) => tell(5, k, 0, 0, 0),
+impl From<Flaw> for Answer {
+    ghost from_gives = { λ flaw answer. answer ≡ answer_of (flaw_told flaw) };
+
+    fn from(flaw: Flaw) -> Answer {
+        match flaw {
+            Flaw::Limits => tell(1, []),
+            Flaw::Length => tell(2, []),
+            Flaw::Rows(k) => tell(3, [k]),
+            Flaw::Value(p) => tell(4, [p]),
+            Flaw::Order(k) => tell(5, [k]),
+        }
     }
 }
 
 // What is wrong with a book.
-fn fault(f: Fault) -> Answer
-    ensures { result ≡ answer_of (fault_told f) }
-{
-    match f {
-        Fault::Cut(p) => tell(9, p, 0, 0, 0),
-        Fault::Mark(p) => tell(10, p, 0, 0, 0),
-        Fault::Field(p) => tell(11, p, 0, 0, 0),
-        Fault::Order(p) => tell(12, p, 0, 0, 0),
-        Fault::Idle(p) => tell(13, p, 0, 0, 0),
-        Fault::Family(p) => tell(14, p, 0, 0, 0),
-        Fault::Trailing(p) => tell(15, p, 0, 0, 0),
+impl From<Fault> for Answer {
+    ghost from_gives = { λ fault answer. answer ≡ answer_of (fault_told fault) };
+
+    fn from(fault: Fault) -> Answer {
+        match fault {
+            Fault::Cut(p) => tell(9, [p]),
+            Fault::Mark(p) => tell(10, [p]),
+            Fault::Field(p) => tell(11, [p]),
+            Fault::Order(p) => tell(12, [p]),
+            Fault::Idle(p) => tell(13, [p]),
+            Fault::Family(p) => tell(14, [p]),
+            Fault::Trailing(p) => tell(15, [p]),
+        }
     }
 }
 
 // The number of rows of a sound table, or what is wrong with it.
-pub fn checked(c: Checked) -> Answer
-    ensures { result ≡ answer_of (checked_told c) }
-{
-    match c {
-        Checked::Sound(rows) => tell(0, rows, 0, 0, 0),
-        Checked::Flawed(f) => flaw(f),
+impl From<Result<usize, Flaw>> for Answer {
+    ghost from_gives = { λ checked answer. answer ≡ answer_of (checked_told checked) };
+
+    fn from(checked: Result<usize, Flaw>) -> Answer {
+        match checked {
+            Ok(rows) => tell(0, [rows]),
+            Err(flaw) => flaw.into(),
+        }
     }
 }
 
 // The book's length and its number of rules, or why it is not made.
-pub fn made(m: Made) -> Answer
-    ensures { result ≡ answer_of (made_told m) }
-{
-    match m {
-        Made::Book { length, rules } => tell(0, length, rules, 0, 0),
-        Made::Flawed(f) => flaw(f),
-        Made::Family => tell(6, 0, 0, 0, 0),
-        Made::Pair(i, j) => tell(7, i, j, 0, 0),
-        Made::Triple(i, j, k) => tell(7, i, j, k, 0),
-        Made::Room(length) => tell(8, length, 0, 0, 0),
+impl From<Result<Made, Unmade>> for Answer {
+    ghost from_gives = { λ made answer. answer ≡ answer_of (made_told made) };
+
+    fn from(made: Result<Made, Unmade>) -> Answer {
+        match made {
+            Ok(Made { length, rules }) => tell(0, [length, rules]),
+            Err(Unmade::Flawed(flaw)) => flaw.into(),
+            Err(Unmade::Family) => tell(6, []),
+            Err(Unmade::Open(Open::Pair(i, j))) => tell(7, [i, j]),
+            Err(Unmade::Open(Open::Triple(i, j, k))) => tell(7, [i, j, k]),
+            Err(Unmade::Room(length)) => tell(8, [length]),
+        }
     }
 }
 
 // The book's n, l, family and number of rules, or what is wrong with it.
-pub fn reading(r: Reading) -> Answer
-    ensures { result ≡ answer_of (reading_told r) }
-{
-    match r {
-        Reading::Book {
-            n,
-            l,
-            family,
-            rules,
-        } => tell(0, n, l, family, rules),
-        Reading::Faulty(f) => fault(f),
+impl From<Result<Head, Fault>> for Answer {
+    ghost from_gives = { λ reading answer. answer ≡ answer_of (reading_told reading) };
+
+    fn from(reading: Result<Head, Fault>) -> Answer {
+        match reading {
+            Ok(head) => tell(0, [head.n, head.l, head.family, head.rules]),
+            Err(fault) => fault.into(),
+        }
     }
 }
 
 // 1 if the combination is permitted, else 0 and the number of the first rule not met; or why it is not tested.
-pub fn tested(t: Tested) -> Answer
-    ensures { result ≡ answer_of (tested_told t) }
-{
-    match t {
-        Tested::Permitted => tell(0, 1, 0, 0, 0),
-        Tested::NotMet(rule) => tell(0, 0, rule, 0, 0),
-        Tested::Faulty(f) => fault(f),
-        Tested::Length => tell(16, 0, 0, 0, 0),
-        Tested::Value(p) => tell(17, p, 0, 0, 0),
+impl From<Result<Option<usize>, Untested>> for Answer {
+    ghost from_gives = { λ tested answer. answer ≡ answer_of (tested_told tested) };
+
+    fn from(tested: Result<Option<usize>, Untested>) -> Answer {
+        match tested {
+            Ok(None) => tell(0, [1]),
+            Ok(Some(rule)) => tell(0, [0, rule]),
+            Err(Untested::Faulty(fault)) => fault.into(),
+            Err(Untested::Length) => tell(16, []),
+            Err(Untested::Value(p)) => tell(17, [p]),
+        }
     }
 }
 
-// 1 for yes and 0 for no.
-fn bit(yes: bool) -> usize
-    ensures { result ≡ cond yes 1 0 }
-{
-    if yes { 1 } else { 0 }
-}
-
 // A page's rows, its steps, and 1 if it is finished, else 0; or why there is none.
-fn ended(o: Outcome) -> Answer
-    ensures { result ≡ answer_of (outcome_told o) }
-{
-    match o {
-        Outcome::Listed {
-            rows,
-            steps,
-            finished,
-        } => tell(0, rows, steps, bit(finished), 0),
-        Outcome::Faulty(f) => fault(f),
-        Outcome::BadCursor => tell(18, 0, 0, 0, 0),
-        Outcome::BadBudget => tell(19, 0, 0, 0, 0),
-        Outcome::NoRoom => tell(20, 0, 0, 0, 0),
+impl From<Result<Listed, Unlisted>> for Answer {
+    ghost from_gives = { λ outcome answer. answer ≡ answer_of (outcome_told outcome) };
+
+    fn from(outcome: Result<Listed, Unlisted>) -> Answer {
+        match outcome {
+            Ok(listed) => tell(0, [listed.rows, listed.steps, usize::from(listed.finished)]),
+            Err(Unlisted::Faulty(fault)) => fault.into(),
+            Err(Unlisted::BadCursor) => tell(18, []),
+            Err(Unlisted::BadBudget) => tell(19, []),
+            Err(Unlisted::NoRoom) => tell(20, []),
+        }
     }
 }
 
 // How the page ended, beside its cursor.
-pub fn paged(p: Paged) -> PageAnswer
-    ensures { result ≡ paged_of p }
-{
-    let outcome = p.outcome;
-    let cursor = p.cursor;
-    PageAnswer {
-        answer: ended(outcome),
-        cursor,
+impl From<Paged> for PageAnswer {
+    ghost from_gives = { λ paged answer. answer ≡ paged_of paged };
+
+    fn from(paged: Paged) -> PageAnswer {
+        PageAnswer {
+            answer: paged.outcome.into(),
+            cursor: paged.cursor,
+        }
     }
 }

@@ -15,7 +15,7 @@ ghost use Rattle.listing.specs.Pages.{page_of};
 ghost use Rattle.rulebook.specs.Told.{checked_told, reading_told, tested_told};
 ghost use Rattle.rulebook_c.specs.Answers.{answer_of, made_answer, page_answer};
 
-use answers::{Answer, PageAnswer, checked, made, paged, reading, tested};
+use answers::{Answer, PageAnswer};
 use rulebook::{Cursor, RulePart};
 
 // Is this a sound table? Gives the number of rows.
@@ -23,7 +23,7 @@ use rulebook::{Cursor, RulePart};
 pub extern "C" fn rulebook_check(n: usize, l: usize, table: &[u8]) -> Answer
     ensures { result ≡ answer_of (checked_told (checked_of n l table.now)) }
 {
-    checked(rulebook::check(n, l, table))
+    rulebook::check(n, l, table).into()
 }
 
 // Makes the book of a table in a family, and writes it at the start of the room; a refusal writes nothing.
@@ -38,7 +38,7 @@ pub extern "C" fn rulebook_make(
 ) -> Answer
     ensures { ◌≡◌ {A = Answer × List ℕ} (result, room.new) (made_answer (made_of n l family table.now room.old)) }
 {
-    made(rulebook::make(n, l, family, table, room))
+    rulebook::make(n, l, family, table, room).into()
 }
 
 // Reads a book. Gives n, l, family and the number of rules.
@@ -46,7 +46,7 @@ pub extern "C" fn rulebook_make(
 pub extern "C" fn rulebook_read(book: &[u8]) -> Answer
     ensures { result ≡ answer_of (reading_told (read_of book.now)) }
 {
-    reading(rulebook::read(book))
+    rulebook::read(book).into()
 }
 
 // Where a rule's record stands in the book. Length 0, at the end, where there is no such rule.
@@ -62,7 +62,7 @@ pub extern "C" fn rulebook_rule(book: &[u8], number: usize) -> RulePart
 pub extern "C" fn rulebook_test(book: &[u8], combination: &[u8]) -> Answer
     ensures { result ≡ answer_of (tested_told (tested_of book.now combination.now)) }
 {
-    tested(rulebook::test(book, combination))
+    rulebook::test(book, combination).into()
 }
 
 // Down to the prefix one longer that ends in 0, or the same cursor where there is none.
@@ -100,5 +100,5 @@ pub extern "C" fn rulebook_page(
 ) -> PageAnswer
     ensures { ◌≡◌ {A = PageAnswer × List ℕ} (result, room.new) (page_answer (page_of book.now cursor budget room.old)) }
 {
-    paged(rulebook::page(book, cursor, room, budget))
+    rulebook::page(book, cursor, room, budget).into()
 }

@@ -7,5 +7,4 @@ pub mod Combining
 pub mod Promised
 pub mod Loops
 pub mod Closures
-pub mod Steps
 pub mod Checking

@@ -1,12 +1,10 @@
 -- Check: what is wrong with a table. Refusals 1 to 5 of document 01, in their order, with their numbers and values.
-use Rattle.std.specs.Prelude.{ℕ, suc, ◌/◌, ◌%◌, ◌-◌, ◌≤◌, ◌*◌, List, [], ◌∷◌, ◌≡◌, leb, ltb, eqb, T, length}
+use Rattle.std.specs.Prelude.{Result, Ok, Err, ℕ, suc, ◌/◌, ◌%◌, ◌-◌, ◌≤◌, ◌*◌, List, [], ◌∷◌, ◌≡◌, leb, ltb, eqb, T, length}
 use Rattle.std.proofs.Math.Option.{Option, none, some}
 use Rattle.meaning.specs.Rows.{Row, Sizes, alike, at, row, before, rows_of, sound, limits, Limited}
 use Rattle.meaning.specs.Closed.{or_else, first, unless}
 use Rattle.tables.specs.declared.Flaw.{Flaw}
 use Rattle.tables.specs.declared.Flaw.TheVariants.{Limits, Length, Rows, Value, Order}
-use Rattle.tables.specs.declared.Checked.{Checked}
-use Rattle.tables.specs.declared.Checked.TheVariants.{Sound, Flawed}
 
 abbrev pub number_of : Flaw → ℕ
 number_of Limits = 1
@@ -49,11 +47,11 @@ flaw_of ns table =
     (row_flaw_of ns table))
 
 -- success gives the number of rows
-abbrev pub answer : ℕ → Option Flaw → Checked
-answer k none = Sound k
-answer k (some f) = Flawed f
+abbrev pub answer : ℕ → Option Flaw → Result ℕ Flaw
+answer k none = Ok k
+answer k (some f) = Err f
 
-unfoldable pub checked_of : ℕ → ℕ → List ℕ → Checked
+unfoldable pub checked_of : ℕ → ℕ → List ℕ → Result ℕ Flaw
 checked_of n l table = answer (length table / l) (or_else (unless (limits n l) Limits) (flaw_of (alike n l) table))
 
 -- a table that passes all five, of k rows

@@ -1,117 +1,72 @@
 // The search for rows that show a table not closed.
-ghost use Rattle.std.specs.Prelude.{◌≡◌};
+ghost use Rattle.std.specs.Prelude.{◌≡◌, ◌<◌, length};
 ghost use Rattle.meaning.specs.Rows.{rows_of};
 ghost use Rattle.meaning.specs.Closed.{open_pair, open_triple, open_rows};
-ghost use Rattle.tables.specs.Inner.{Ready, Known, shown, pair_after, triple_after, triples_after};
-ghost use Rattle.meaning.specs.Inner.{side_of};
+ghost use Rattle.tables.specs.Inner.{Ready, shown, pair_after, triple_after, triples_after};
+ghost use Rattle.tables.specs.Rows.{rows_in};
+ghost use Rattle.literals.specs.Kinds.{side_of};
 
-use crate::Closure;
+use crate::Open;
 use crate::combine::{median_is_row, pair_is_row};
+use crate::rows::Rows;
+use literals::{Family, Side};
 
-// Rows i and j with the first j after i for which the minimum, or where `high` the maximum, is no row.
-fn pair_after(table: &[u8], l: usize, high: bool, i: usize) -> Closure
-    requires { Ready l table.now × Known l table.now i }
-    ensures { shown result ≡ pair_after (side_of high) l table.now i }
+// Rows i and j with the first j after i for which the minimum, or for the high side the maximum, is no row.
+fn pair_after(rows: Rows, side: Side, i: usize) -> Option<Open>
+    requires { i < length (rows_in rows) }
+    ensures { shown result ≡ pair_after (side_of side) (rows_in rows.entry) i }
 {
-    let rows = table.len() / l;
-    let mut j = i + 1;
-    while j < rows {
-        let known = pair_is_row(table, l, high, i, j);
-        if known {
-            j += 1;
-        } else {
-            return Closure::Pair(i, j);
-        }
-    }
-    Closure::Closed
+    let count = rows.count();
+    (i + 1..count)
+        .find(|j| !pair_is_row(rows, side, i, *j))
+        .map(|j| Open::Pair(i, j))
 }
 
-// The first pair of ascending row numbers whose minimum, or where `high` maximum, is no row.
-fn open_pair(table: &[u8], l: usize, high: bool) -> Closure
-    requires { Ready l table.now }
-    ensures { shown result ≡ open_pair (side_of high) (rows_of l table.now) }
+// The first pair of ascending row numbers whose minimum, or for the high side maximum, is no row.
+fn open_pair(rows: Rows, side: Side) -> Option<Open>
+    ensures { shown result ≡ open_pair (side_of side) (rows_in rows.entry) }
 {
-    let rows = table.len() / l;
-    let mut i = 0;
-    while i < rows {
-        let found = pair_after(table, l, high, i);
-        if let Closure::Closed = found {
-            i += 1;
-        } else {
-            return found;
-        }
-    }
-    Closure::Closed
+    (0..rows.count()).find_map(|i| pair_after(rows, side, i))
 }
 
 // Rows a, b and c with the first c after b for which the median is no row.
-fn triple_after(table: &[u8], l: usize, a: usize, b: usize) -> Closure
-    requires { Ready l table.now × Known l table.now a × Known l table.now b }
-    ensures { shown result ≡ triple_after l table.now a b }
+fn triple_after(rows: Rows, a: usize, b: usize) -> Option<Open>
+    requires { (a < length (rows_in rows)) × (b < length (rows_in rows)) }
+    ensures { shown result ≡ triple_after (rows_in rows.entry) a b }
 {
-    let rows = table.len() / l;
-    let mut c = b + 1;
-    while c < rows {
-        let known = median_is_row(table, l, a, b, c);
-        if known {
-            c += 1;
-        } else {
-            return Closure::Triple(a, b, c);
-        }
-    }
-    Closure::Closed
+    let count = rows.count();
+    (b + 1..count)
+        .find(|c| !median_is_row(rows, a, b, *c))
+        .map(|c| Open::Triple(a, b, c))
 }
 
 // Rows a, b and c with the first b after a, and then the first c after b, for which the median is no row.
-fn triples_after(table: &[u8], l: usize, a: usize) -> Closure
-    requires { Ready l table.now × Known l table.now a }
-    ensures { shown result ≡ triples_after l table.now a }
+fn triples_after(rows: Rows, a: usize) -> Option<Open>
+    requires { a < length (rows_in rows) }
+    ensures { shown result ≡ triples_after (rows_in rows.entry) a }
 {
-    let rows = table.len() / l;
-    let mut b = a + 1;
-    while b < rows {
-        let found = triple_after(table, l, a, b);
-        if let Closure::Closed = found {
-            b += 1;
-        } else {
-            return found;
-        }
-    }
-    Closure::Closed
+    let count = rows.count();
+    (a + 1..count).find_map(|b| triple_after(rows, a, b))
 }
 
 // The first triple of ascending row numbers whose median is no row.
-fn open_triple(table: &[u8], l: usize) -> Closure
-    requires { Ready l table.now }
-    ensures { shown result ≡ open_triple (rows_of l table.now) }
+fn open_triple(rows: Rows) -> Option<Open>
+    ensures { shown result ≡ open_triple (rows_in rows.entry) }
 {
-    let rows = table.len() / l;
-    let mut a = 0;
-    while a < rows {
-        let found = triples_after(table, l, a);
-        if let Closure::Closed = found {
-            a += 1;
-        } else {
-            return found;
-        }
-    }
-    Closure::Closed
+    (0..rows.count()).find_map(|a| triples_after(rows, a))
 }
 
 // The first rows that show the table not closed for the family: general asks for nothing, Horn for the minimum, dual Horn
 // for the maximum, bijunctive for the median.
-pub fn open_rows(family: usize, table: &[u8], l: usize) -> Closure
+pub fn open_rows(family: usize, table: &[u8], l: usize) -> Option<Open>
     requires { Ready l table.now }
     ensures { shown result ≡ open_rows family (rows_of l table.now) }
 {
-    if family == 0 {
-        return Closure::Closed;
+    let rows = Rows { table, l };
+    match Family::of(family) {
+        Family::General => None,
+        Family::Horn => open_pair(rows, Side::Low),
+        Family::Dual => open_pair(rows, Side::High),
+        Family::Bijunctive => open_triple(rows),
     }
-    if family == 1 {
-        return open_pair(table, l, false);
-    }
-    if family == 2 {
-        return open_pair(table, l, true);
-    }
-    open_triple(table, l)
 }

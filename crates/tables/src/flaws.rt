@@ -1,110 +1,92 @@
 // The check of a table: refusals 1 to 5, in their order.
-ghost use Rattle.std.specs.Prelude.{◌≡◌, ◌+◌, ◌/◌, ◌%◌, ◌≤◌, ◌<◌, length};
-ghost use Rattle.meaning.specs.Rows.{Limited};
+ghost use Rattle.std.specs.Prelude.{◌≡◌, ◌+◌, ◌/◌, ◌%◌, ◌≤◌, ◌<◌, ◌^◌, MatchOption, true, length};
+ghost use Rattle.meaning.specs.Rows.{Limited, before};
 ghost use Rattle.tables.specs.Check.{row_flaw_of, flaw_of, answer, checked_of};
-ghost use Rattle.tables.specs.Inner.{Passed, Stands, low_from};
+ghost use Rattle.tables.specs.Inner.{passed_of, value_flaw};
 
-use crate::order::{Compared, compare};
-use crate::{Checked, Flaw};
-use literals::{limits, narrow};
+use crate::Flaw;
+use literals::limits;
 
-// The place of the first value of the row at `at` that is not below its setting's size, or the row's end.
-fn passed(sizes: &[u8], table: &[u8], at: usize) -> usize
-    requires { (at % length sizes.now ≡ 0) × (at + length sizes.now ≤ length table.now) }
-    ensures { Passed sizes.now table.now at result }
+// Refusal 4 for the row whose values stand from `at` on: each is to be below its setting's size.
+fn check_values(sizes: &[u8], row: &[u8], at: usize) -> Result<(), Flaw>
+    requires { (length row.now ≡ length sizes.now) × (at + length sizes.now < 2 ^ 64) }
+    ensures { result ≡ passed_of (value_flaw sizes.now row.now at) }
 {
-    let mut i = 0;
-    while i < sizes.len() {
-        if sizes[i] <= table[at + i] {
-            return at + i;
-        }
-        i += 1;
+    match row
+        .iter()
+        .zip(sizes)
+        .position(|(value, size)| size <= value)
+    {
+        Some(i) => Err(Flaw::Value(at + i)),
+        None => Ok(()),
     }
-    at + i
 }
 
-// The first row up to row k + 1 that is not above the one before it, where `low` is the first up to row k, which stands
-// at `at`. Where there is none, 0.
-fn low_next(table: &[u8], l: usize, k: usize, at: usize, low: usize) -> usize
-    requires { Stands table.now l k at }
-    ensures { low_from table.now l (k + 1) result ≡ low_from table.now l k low }
+// Is the row above the one before it? The first row has none.
+#[tactic(auto, using(crate::proofs::laws::Compare::before_tested))]
+fn rises(last: Option<&[u8]>, row: &[u8]) -> bool
+    ensures { MatchOption last.entry (result ≡ true) (λ l. result ≡ before l.now row.now) }
 {
-    if 0 < low {
-        return low;
-    }
-    let next = at + l;
-    let left = table.len() - next;
-    if left < l {
-        return 0;
-    }
-    let end = next + l;
-    match compare(&table[at..next], &table[next..end]) {
-        Compared::Below => 0,
-        Compared::Same => k + 1,
-        Compared::Above => k + 1,
+    match last {
+        Some(last) => last < row,
+        None => true,
     }
 }
 
 // Refusals 4 and 5, in one pass over the rows: the first value too high decides at once, the first row too low at the end.
-fn check_rows(sizes: &[u8], table: &[u8]) -> Checked
+fn check_rows(sizes: &[u8], table: &[u8]) -> Result<usize, Flaw>
     requires { (0 < length sizes.now) × (length table.now % length sizes.now ≡ 0) }
     ensures { result ≡ answer (length table.now / length sizes.now) (row_flaw_of sizes.now table.now) }
 {
     let l = sizes.len();
-    let mut low: usize = 0;
-    let mut k: usize = 0;
-    let mut at: usize = 0;
-    while at < table.len() {
-        let place = passed(sizes, table, at);
-        let end = at + l;
-        if place < end {
-            return Checked::Flawed(Flaw::Value(place));
+    let mut low = None;
+    let mut last = None;
+    for (k, row) in table.chunks_exact(l).enumerate() {
+        check_values(sizes, row, k * l)?;
+        if low.is_none() && !rises(last, row) {
+            low = Some(k);
         }
-        low = low_next(table, l, k, at, low);
-        k += 1;
-        at = end;
+        last = Some(row);
     }
-    if low == 0 {
-        return Checked::Sound(k);
+    match low {
+        Some(k) => Err(Flaw::Order(k)),
+        None => Ok(table.len() / l),
     }
-    Checked::Flawed(Flaw::Order(low))
 }
 
 // Refusals 2 to 5, over a size for each setting.
 #[tactic(auto, using(crate::proofs::laws::Refusals::sizes_many))]
-pub fn check_sizes(sizes: &[u8], table: &[u8]) -> Checked
+pub fn check_sizes(sizes: &[u8], table: &[u8]) -> Result<usize, Flaw>
     requires { 0 < length sizes.now }
     ensures { result ≡ answer (length table.now / length sizes.now) (flaw_of sizes.now table.now) }
 {
     let l = sizes.len();
     if 0 < table.len() % l {
-        return Checked::Flawed(Flaw::Length);
+        return Err(Flaw::Length);
     }
     let rows = table.len() / l;
     if 512 < rows {
-        return Checked::Flawed(Flaw::Rows(rows));
+        return Err(Flaw::Rows(rows));
     }
     check_rows(sizes, table)
 }
 
 // The check over l settings of n values each.
-fn check_alike(n: usize, l: usize, table: &[u8]) -> Checked
+fn check_alike(n: usize, l: usize, table: &[u8]) -> Result<usize, Flaw>
     requires { Limited n l }
     ensures { result ≡ checked_of n l table.now }
 {
-    let space = [narrow(n); 16];
-    let sizes = &space[..l];
-    check_sizes(sizes, table)
+    check_sizes(&[n as u8; 16][..l], table)
 }
 
 // Is the table of rows of l values below n sound: strictly ascending, no more than 512? Gives the number of rows, or the
 // first of refusals 1 to 5 with its values.
-pub fn check(n: usize, l: usize, table: &[u8]) -> Checked
+pub fn check(n: usize, l: usize, table: &[u8]) -> Result<usize, Flaw>
     ensures { result ≡ checked_of n l table.now }
 {
-    let known = limits(n, l);
-    if known {
-        return check_alike(n, l, table);
+    if limits(n, l) {
+        check_alike(n, l, table)
+    } else {
+        Err(Flaw::Limits)
     }
-    Checked::Flawed(Flaw::Limits)
 }

@@ -7,7 +7,7 @@ pub mod closures;
 pub mod combine;
 pub mod flaws;
 pub mod lookup;
-pub mod order;
+pub mod rows;
 
 pub use closures::open_rows;
 pub use flaws::check;
@@ -25,17 +25,9 @@ pub enum Flaw {
     Order(usize),
 }
 
-// What checking a table gives: the number of rows of a sound one, or the first flaw.
+// Rows, ascending, whose combination is no row: they show that a table is not closed.
 #[derive(Clone, Copy)]
-pub enum Checked {
-    Sound(usize),
-    Flawed(Flaw),
-}
-
-// What the search for closure gives: the table is closed, or the first rows, ascending, whose result is no row.
-#[derive(Clone, Copy)]
-pub enum Closure {
-    Closed,
+pub enum Open {
     Pair(usize, usize),
     Triple(usize, usize, usize),
 }

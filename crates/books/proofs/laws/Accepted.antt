@@ -7,8 +7,7 @@ use lib.ListN.{length, get_or, drop}
 use Rattle.meaning.specs.Rules.{Rule}
 use Rattle.meaning.proofs.Literals.{one_byte, three_bytes}
 use Rattle.meaning.specs.Bytes.{encode_rules, encode_end, encode, WellFormed, end_at, rules_at, word_at, rules_in}
-use Rattle.books.specs.declared.Reading.TheVariants.{Book}
-use Rattle.books.specs.Format.{read_of}
+use Rattle.books.specs.Format.{Book, read_of}
 use Rattle.books.proofs.laws.Fields.{mark_tells, field_tells, word_tells}
 use Rattle.books.proofs.laws.Whole.{book_tells}
 use Rattle.books.proofs.laws.Holds.{holds_start}

@@ -1,4 +1,4 @@
--- Testing rules where they stand in a book: the loop to the first rule not met.
+-- Testing rules where they stand in a book: the loop to the first rule that is not met.
 use Prim.Native.Nat.{ℕ, suc, ◌+◌, ◌-◌, ◌≤◌, ◌<◌}
 use native.Mathlib.Omega.{arith}
 use native.Mathlib.Nat.{sub-zero}
@@ -6,12 +6,14 @@ use mathlib.Core.Path.{◌≡◌, sym, ◌∙◌}
 use mathlib.Core.Bool.{Bool, true, false}
 use mathlib.Core.List.{List, ◌∷◌}
 use lib.ListN.{length, get_or}
+use borrow.Author.Tests.{lt-ltb, le-ltb}
+use Rattle.std.specs.Prelude.{Some, None}
 use Rattle.meaning.specs.Rows.{Row}
 use Rattle.meaning.specs.Rules.{met}
 use Rattle.meaning.specs.Bytes.{rule_at, end_at, rules_at}
 use Rattle.literals.specs.Inner.{Askable}
-use Rattle.literals.proofs.laws.Places.{fit_known}
-use Rattle.books.specs.Tested.{first_unmet}
+use Rattle.literals.proofs.laws.Known.{fit_known}
+use Rattle.books.specs.Tested.{first_unmet, found}
 use Rattle.books.specs.Inner.{Testable}
 use Rattle.books.proofs.laws.Holds.{holds_good, holds_inside, holds_on}
 use Rattle.books.proofs.laws.First.{first_unmet_met, first_unmet_not}
@@ -39,15 +41,16 @@ module _ (b : List ℕ) (x : Row) (k : ℕ) where
     unfolding rules_at
     unmet_step = let e : k - i ≡ suc (k - (i + 1)) = omega arith in rw e
 
-    pub unmet_found : (r : Bool) → r ≡ met (rule_at b p) x → r ≡ false → i ≡ first_unmet (rules_at b 7 k) x
-    unmet_found r e q =
-        let u = first_unmet_not (rule_at b p) (rules_at b (end_at b p) (k - (i + 1))) x (sym e ∙ q) in
+    pub unmet_found : met (rule_at b p) x ≡ false → Some i ≡ found (first_unmet (rules_at b 7 k) x) k
+    unmet_found e =
+        let u = first_unmet_not (rule_at b p) (rules_at b (end_at b p) (k - (i + 1))) x e in
         let w = rw unmet_step at a.whole in
-        omega arith
+        let z : first_unmet (rules_at b 7 k) x ≡ i = omega arith in
+        rw (z, lt-ltb i k h)
 
     pub unmet_on : (r : Bool) → r ≡ met (rule_at b p) x → r ≡ true → (e : ℕ) → e ≡ end_at b p → UnmetAt b x k e (i + 1)
-    unmet_on r e q p' o =
-        let u = first_unmet_met (rule_at b p) (rules_at b (end_at b p) (k - (i + 1))) x (sym e ∙ q) in
+    unmet_on r d q p' o =
+        let u = first_unmet_met (rule_at b p) (rules_at b (end_at b p) (k - (i + 1))) x (sym d ∙ q) in
         let w = rw unmet_step at a.whole in
         let t = a.left in
         rw o (record {
@@ -56,9 +59,12 @@ module _ (b : List ℕ) (x : Row) (k : ℕ) where
           short = omega arith;
         })
 
-  pub unmet_end : (p i : ℕ) → UnmetAt b x k p i → k ≤ i → i ≡ first_unmet (rules_at b 7 k) x
+  pub unmet_end : (p i : ℕ) → UnmetAt b x k p i → k ≤ i → None ≡ found (first_unmet (rules_at b 7 k) x) k
   unfolding rules_at first_unmet
   unmet_end p i a h =
       let e : k - i ≡ 0 = omega arith in
       let w = rw e at a.whole in
-      omega arith
+      let z : first_unmet (rules_at b 7 k) x ≡ k = omega (arith, a.short) in
+      rw (z, le-ltb k k (omega arith))
+
+pub ruleset unmet_loop = (unmet_start, unmet_ask, unmet_inside, unmet_found, unmet_end)

@@ -4,16 +4,16 @@ use native.Mathlib.Omega.{arith}
 use mathlib.Core.Path.{◌≡◌, sym, ap, ◌∙◌}
 use mathlib.Core.List.{List, ◌++◌, append_assoc}
 use lib.ListN.{length, get_or, drop}
+use Rattle.std.specs.Prelude.{Ok}
 use Rattle.meaning.specs.Rules.{AllGood}
 use Rattle.meaning.proofs.Literals.{literals_length, literal_parts, three_bytes}
 use Rattle.meaning.specs.Bytes.{encode_literals, encode_rule, encode_rules, literals_at, rule_at, end_at, rules_at, place_at}
-use Rattle.books.specs.declared.Got.TheVariants.{At}
 use Rattle.books.specs.Format.{mark_of, field_of, literal_of, literals_of, body_of, rule_of, rules_of}
-use Rattle.books.proofs.laws.Fields.{field_tells}
-use Rattle.books.proofs.laws.Literals.{literal_tells, chain}
+use Rattle.books.proofs.laws.Fields.{chain, field_tells}
+use Rattle.books.proofs.laws.Literals.{literal_tells}
 use Rattle.books.proofs.laws.Rules.{rule_tells}
 
-literals_encoded : (b ns : List ℕ) (from least p k e : ℕ) → literals_of b ns from least p k ≡ At e → drop p b ≡ encode_literals (literals_at b p k) ++ drop (p + 3 * k) b
+literals_encoded : (b ns : List ℕ) (from least p k e : ℕ) → literals_of b ns from least p k ≡ Ok e → drop p b ≡ encode_literals (literals_at b p k) ++ drop (p + 3 * k) b
 unfolding literals_of literals_at encode_literals
 literals_encoded b ns from least p zero e h = let z : p + 3 * 0 ≡ p = omega arith in rw z
 literals_encoded b ns from least p (suc k) e h =
@@ -24,7 +24,7 @@ literals_encoded b ns from least p (suc k) e h =
     let g : get_or b (p + 1) 0 < 2 = omega (arith, t.sign.value, t.sign.high) in
     three_bytes b p (omega (arith, t.bound.inside)) ∙ sym (literal_parts (get_or b (p + 1) 0) (get_or b p 0) (get_or b (p + 2) 0) (drop (p + 3) b) g) ∙ rw (z, m)
 
-rule_encoded : (b ns : List ℕ) (family from e : ℕ) → rule_of b ns family from ≡ At e → drop from b ≡ encode_rule (rule_at b from) ++ drop e b
+rule_encoded : (b ns : List ℕ) (family from e : ℕ) → rule_of b ns family from ≡ Ok e → drop from b ≡ encode_rule (rule_at b from) ++ drop e b
 unfolding rule_of body_of encode_rule
 rule_encoded b ns family from e h =
     let u = rule_tells b ns family from e h in
@@ -41,7 +41,7 @@ pub record RulesGot (b ns : List ℕ) (family p k e : ℕ) : Type 0 where
   pub end : place_at b p k ≡ e
   pub bytes : drop p b ≡ encode_rules (rules_at b p k) ++ drop e b
 
-pub rules_tell : (b ns : List ℕ) (family p k e : ℕ) → rules_of b ns family p k ≡ At e → RulesGot b ns family p k e
+pub rules_tell : (b ns : List ℕ) (family p k e : ℕ) → rules_of b ns family p k ≡ Ok e → RulesGot b ns family p k e
 unfolding rules_of rules_at place_at encode_rules
 rules_tell b ns family p zero e h = let z : p ≡ e = cc in record { good = tt; end = z; bytes = rw z }
 rules_tell b ns family p (suc k) e h =

@@ -1,41 +1,48 @@
--- Family: in which family the literals that stand in a book make a rule, by their number or by how many of them are scarce.
-use Prim.Native.Nat.{ℕ, zero, suc, ◌≤◌, ◌<◌}
-use native.Mathlib.Omega.{arith}
+-- Family: the test of a rule by its family's number is the test of the family that the number names.
+use Prim.Native.Nat.{ℕ, zero, suc, ◌+◌, ◌*◌, ◌-◌, ◌≤◌}
 use mathlib.Core.Path.{◌≡◌, refl, ◌∙◌}
-use mathlib.Core.Logic.{◌≢◌}
-use mathlib.Core.Bool.{true}
+use mathlib.Core.Bool.{Bool, true}
 use mathlib.Core.List.{List}
-use lib.Dec.{ltb, eqb}
-use Rattle.meaning.specs.Rules.{Rule, scarces, horn, bijunctive, in_family}
+use lib.Dec.{ltb}
+use lib.ListN.{length, take, drop}
+use Rattle.meaning.specs.Rules.{Rule, low, high, scarces, horn, bijunctive, in_family}
 use Rattle.meaning.specs.Bytes.{literals_at}
-use Rattle.meaning.specs.Inner.{side_of}
 use Rattle.meaning.proofs.Literals.{literals_length}
+use Rattle.literals.specs.Inner.{literals_in}
+use Rattle.literals.proofs.laws.Chunks.{literals_part}
+use Rattle.literals.specs.declared.kinds.Family.{Family}
+use Rattle.literals.specs.declared.kinds.Family.TheVariants.{General, Horn, Dual, Bijunctive}
+use Rattle.literals.specs.Kinds.{family_of}
+
+abbrev test_of : Family → Rule → Bool
+test_of General r = true
+test_of Horn r = horn low r
+test_of Dual r = horn high r
+test_of Bijunctive r = bijunctive r
+
+pub family_test : (r : Rule) (family : ℕ) (f : Family) → f ≡ family_of family → test_of f r ≡ in_family family r
+unfolding in_family
+family_test r family f e = rw e (go family)
+  where
+    go : (k : ℕ) → test_of (family_of k) r ≡ in_family k r
+    go zero = refl
+    go (suc zero) = refl
+    go (suc (suc zero)) = refl
+    go (suc (suc (suc k))) = refl
 
 module _ (b : List ℕ) (start c family : ℕ) where
-  abbrev r : Rule
-  r = literals_at b start c
+  pub family_horn : {k : ℕ} → Horn ≡ family_of family → start + 3 * c ≤ length b → k ≡ scarces low (literals_in (take (start + 3 * c - start) (drop start b)))
+      → ltb k 2 ≡ in_family family (literals_at b start c)
+  unfolding horn
+  family_horn e h k = rw (k, literals_part b start c h) (family_test (literals_at b start c) family Horn e)
 
-  pub family_general : family ≡ 0 → true ≡ in_family family r
-  unfolding in_family
-  family_general e = rw e
+  pub family_dual : {k : ℕ} → Dual ≡ family_of family → start + 3 * c ≤ length b → k ≡ scarces high (literals_in (take (start + 3 * c - start) (drop start b)))
+      → ltb k 2 ≡ in_family family (literals_at b start c)
+  unfolding horn
+  family_dual e h k = rw (k, literals_part b start c h) (family_test (literals_at b start c) family Dual e)
 
-  pub family_bijunctive : 2 < family → ltb c 3 ≡ in_family family r
-  unfolding in_family bijunctive
-  family_bijunctive h = let e : ltb c 3 ≡ bijunctive r = rw (literals_length b start c) in e ∙ go family h
-    where
-      go : (f : ℕ) → 2 < f → bijunctive r ≡ in_family f r
-      go zero h = absurd (omega arith)
-      go (suc zero) h = absurd (omega arith)
-      go (suc (suc zero)) h = absurd (omega arith)
-      go (suc (suc (suc f))) h = refl
-
-  -- Horn by the positive ones, dual Horn by the negative ones
-  pub family_side : (k : ℕ) → family ≢ 0 → family ≤ 2 → k ≡ scarces (side_of (eqb family 2)) r → ltb k 2 ≡ in_family family r
-  unfolding in_family horn
-  family_side k z h e = rw e (go family z h)
-    where
-      go : (f : ℕ) → f ≢ 0 → f ≤ 2 → ltb (scarces (side_of (eqb f 2)) r) 2 ≡ in_family f r
-      go zero z h = absurd (z refl)
-      go (suc zero) z h = refl
-      go (suc (suc zero)) z h = refl
-      go (suc (suc (suc f))) z h = absurd (omega arith)
+  pub family_bijunctive : Bijunctive ≡ family_of family → ltb c 3 ≡ in_family family (literals_at b start c)
+  unfolding bijunctive
+  family_bijunctive e =
+      let n : ltb c 3 ≡ bijunctive (literals_at b start c) = rw (literals_length b start c) in
+      n ∙ family_test (literals_at b start c) family Bijunctive e

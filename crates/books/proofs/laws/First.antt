@@ -1,17 +1,19 @@
 -- First: the number of the first rule that a combination does not meet, and the place of its first value outside the sizes.
 use Prim.Native.Nat.{ℕ, zero, suc, ◌≤◌, ◌<◌}
 use native.Mathlib.Omega.{arith}
-use mathlib.Core.Path.{◌≡◌, refl, ap}
+use mathlib.Core.Path.{◌≡◌, refl, ap, ◌∙◌}
 use mathlib.Core.Logic.{◌↔◌}
 use mathlib.Core.Bool.{true, false}
 use mathlib.Core.List.{List, [], ◌∷◌}
-use lib.Dec.{T, ltb}
+use lib.Dec.{T, ltb, leb}
 use lib.ListN.{length, get_or}
-use borrow.Author.Tests.{lt-ltb, le-ltb}
+use borrow.Author.Tests.{lt-leb, le-leb, ltb-true, ltb-false}
+use Rattle.std.specs.Prelude.{Option}
+use Rattle.std.specs.List.{zip, position_or_len}
 use Rattle.meaning.specs.Rows.{Row, Sizes, within}
 use Rattle.meaning.specs.Rules.{Rule, met, all_met}
 use Rattle.meaning.proofs.Tests.{case, is, isnt, yes_of}
-use Rattle.books.specs.Tested.{first_unmet, first_over}
+use Rattle.books.specs.Tested.{first_unmet, first_over, found}
 
 -- ---- rules
 
@@ -60,15 +62,6 @@ first_unmet_at (r ∷ rs) x h = elim (case (met r x)) [
 
 -- ---- values
 
-module _ (n : ℕ) (ns : Sizes) (v : ℕ) (x : Row) where
-  pub first_over_below : v < n → first_over (n ∷ ns) (v ∷ x) ≡ suc (first_over ns x)
-  unfolding first_over
-  first_over_below h = rw (lt-ltb v n h)
-
-  pub first_over_not : n ≤ v → first_over (n ∷ ns) (v ∷ x) ≡ 0
-  unfolding first_over
-  first_over_not h = rw (le-ltb v n h)
-
 pub first_over_most : (ns : Sizes) (x : Row) → first_over ns x ≤ length x
 unfolding first_over
 first_over_most ns [] = omega arith
@@ -87,3 +80,24 @@ first_over_all (n ∷ ns) (v ∷ x) h = elim (case (ltb v n)) [
   | is e ↦ rw e (λ g. (first_over_all ns x (omega arith)).0 (omega arith), λ t. ap suc ((first_over_all ns x (omega arith)).1 t))
   | isnt e ↦ rw e (λ g. absurd (omega arith), λ t. absurd t)
 ]
+
+-- a value and its size: the pairs as the code searches them
+over_length : (ns : Sizes) (x : Row) → length x ≡ length ns → length (zip x ns) ≡ length x
+over_length [] [] h = refl
+over_length [] (v ∷ x) h = absurd (omega arith)
+over_length (n ∷ ns) [] h = absurd (omega arith)
+over_length (n ∷ ns) (v ∷ x) h = ap suc (over_length ns x (omega arith))
+
+over_place : (ns : Sizes) (x : Row) → length x ≡ length ns → position_or_len (λ (p : ℕ × ℕ). leb p.1 p.0) (zip x ns) ≡ first_over ns x
+unfolding first_over
+over_place [] [] h = refl
+over_place [] (v ∷ x) h = absurd (omega arith)
+over_place (n ∷ ns) [] h = absurd (omega arith)
+over_place (n ∷ ns) (v ∷ x) h = elim (case (ltb v n)) [
+  | is e ↦ rw (e, lt-leb n v (ltb-true v n e)) (omega (arith, over_place ns x (omega arith)))
+  | isnt e ↦ rw (e, le-leb n v (ltb-false v n e))
+]
+
+pub first_over_pairs : (ns : Sizes) (x : Row) (r : Option ℕ) → length x ≡ length ns
+    → r ≡ found (position_or_len (λ (p : ℕ × ℕ). leb p.1 p.0) (zip x ns)) (length (zip x ns)) → r ≡ found (first_over ns x) (length x)
+first_over_pairs ns x r h e = e ∙ rw (over_place ns x h, over_length ns x h)

@@ -12,8 +12,7 @@ use Rattle.meaning.specs.Rules.{Good}
 use Rattle.meaning.specs.Bytes.{rule_at, end_at, rules_at, place_at, encode_rule, encode_rules, encode_end}
 use Rattle.meaning.proofs.Literals.{two_bytes}
 use Rattle.meaning.proofs.Encoded.{rule_stands}
-use Rattle.books.specs.declared.Reading.TheVariants.{Book}
-use Rattle.books.specs.Format.{read_of}
+use Rattle.books.specs.Format.{Book, read_of}
 use Rattle.books.specs.Inner.{Holds}
 use Rattle.books.proofs.laws.Fields.{mark_tells}
 use Rattle.books.proofs.laws.Back.{rules_tell}

@@ -1,100 +1,78 @@
--- Testing in code: the loop over a combination's values, and the ways out of the test.
-use Prim.Native.Nat.{ℕ, ◌+◌, ◌≤◌, ◌<◌}
+-- Testing in code: the ways out of the test, and the sizes of a book that was read.
+use Prim.Native.Nat.{ℕ, ◌≤◌, ◌<◌}
+use native.Mathlib.Decide.{dec_lt}
 use native.Mathlib.Omega.{arith}
-use native.Mathlib.Numerals.{add-one}
-use mathlib.Core.Path.{◌≡◌, sym, ◌∙◌}
+use mathlib.Core.Path.{◌≡◌, refl, sym, ◌∙◌}
 use mathlib.Core.Logic.{◌≢◌}
-use mathlib.Core.List.{List, ◌∷◌}
-use lib.ListN.{length, get_or, take, drop, replicate}
-use lib.Seq.{drop-cons}
+use mathlib.Core.List.{List}
+use lib.ListN.{length, take, replicate}
 use borrow.Author.Tests.{lt-ltb, le-ltb, eq-eqb, ne_eqb}
-use Rattle.meaning.specs.Rows.{Row, Sizes, alike, Limited}
+use Rattle.std.specs.Prelude.{Option, Some, None, Result, Ok, Err}
+use Rattle.meaning.specs.Rows.{Row, Sizes, Limited}
 use Rattle.meaning.specs.Bytes.{rules_at}
-use Rattle.meaning.proofs.Limits.{lent}
-use Rattle.books.specs.declared.Fault.{Fault}
-use Rattle.books.specs.declared.Reading.{Reading}
-use Rattle.books.specs.declared.Reading.TheVariants.{Book, Faulty}
-use Rattle.books.specs.declared.Tested.{Tested}
-use Rattle.books.specs.declared.Tested.TheVariants.{Permitted, NotMet, Length, Value, Faulty as Refused}
+use Rattle.meaning.proofs.Limits.{lent, lent_length}
+use Rattle.books.specs.declared.Head.{Head}
+use Rattle.books.specs.declared.Untested.{Untested}
+use Rattle.books.specs.declared.Untested.TheVariants.{Length, Value}
 use Rattle.books.specs.Format.{read_of}
 use Rattle.books.specs.Inner.{Testable, Walkable}
-use Rattle.books.specs.Tested.{judge_of, tested_of, first_unmet, first_over}
-use Rattle.books.proofs.laws.Accepted.{headed, rules_at_length}
+use Rattle.books.specs.Tested.{found, judge_of, tested_of, first_unmet, first_over}
+use Rattle.books.proofs.laws.Accepted.{Headed, headed, rules_at_length}
 use Rattle.books.proofs.laws.Holds.{holds_start}
-use Rattle.books.proofs.laws.First.{first_over_most, first_over_below, first_over_not}
-
--- ---- the loop over the values: the i before are below their sizes
-pub record OverAt (ns : Sizes) (x : Row) (i : ℕ) : Type 0 where
-  pub whole : first_over ns x ≡ i + first_over (drop i ns) (drop i x)
-  pub short : i ≤ length x
-
-module _ (ns : Sizes) (x : Row) where
-  pub over_start : OverAt ns x 0
-  over_start = record { whole = omega arith; short = omega arith }
-
-  module _ (i : ℕ) (a : OverAt ns x i) where
-    over_step : i < length x → length x ≡ length ns → (drop i ns ≡ get_or ns i 0 ∷ drop (i + 1) ns) × (drop i x ≡ get_or x i 0 ∷ drop (i + 1) x)
-    over_step h k = (drop-cons ns i 0 (omega arith) ∙ rw (add-one i), drop-cons x i 0 h ∙ rw (add-one i))
-
-    pub over_found : i < length x → length x ≡ length ns → get_or ns i 0 ≤ get_or x i 0 → i ≡ first_over ns x
-    over_found h k l =
-        let s = over_step h k in
-        let w = rw (s.0, s.1) at a.whole in
-        omega (arith, first_over_not (get_or ns i 0) (drop (i + 1) ns) (get_or x i 0) (drop (i + 1) x) l)
-
-    pub over_on : i < length x → length x ≡ length ns → get_or x i 0 < get_or ns i 0 → OverAt ns x (i + 1)
-    over_on h k l =
-        let s = over_step h k in
-        let w = rw (s.0, s.1) at a.whole in
-        record { whole = omega (arith, first_over_below (get_or ns i 0) (drop (i + 1) ns) (get_or x i 0) (drop (i + 1) x) l); short = omega arith }
-
-    pub over_end : length x ≤ i → i ≡ first_over ns x
-    over_end h = omega (arith, a.whole, a.short, first_over_most ns x)
 
 -- ---- the ways out
 
+-- what a search tells
+found_tells : (p k c : ℕ) → Some p ≡ found k c → (p ≡ k) × (k < c)
+found_tells p k c e = elim (dec_lt k c) [
+  | yes h ↦ (let u = rw (lt-ltb k c h) at e in cc, h)
+  | no h ↦ let u = rw (le-ltb k c (omega arith)) at e in absurd (cc)
+]
+
+found_not : (k c : ℕ) → None ≡ found k c → c ≤ k
+found_not k c e = elim (dec_lt k c) [
+  | yes h ↦ let u = rw (lt-ltb k c h) at e in absurd (cc)
+  | no h ↦ omega arith
+]
+
 module _ (b : List ℕ) (ns : Sizes) (k : ℕ) (x : Row) where
-  pub judge_length : length x ≢ length ns → Length ≡ judge_of ns (rules_at b 7 k) x
+  pub judge_length : length x ≢ length ns → Err Length ≡ judge_of ns (rules_at b 7 k) x
   unfolding judge_of
   judge_length h = rw (ne_eqb (length x) (length ns) h)
 
   pub judge_testable : Walkable b ns k → length x ≡ length ns → Testable b x 7 k
   judge_testable w h = record { ns = ns; family = w.family; long = h; holds = w.holds }
 
-  module _ (h : length x ≡ length ns) (p : ℕ) (o : p ≡ first_over ns x) where
-    pub judge_value : p < length x → Value p ≡ judge_of ns (rules_at b 7 k) x
-    unfolding judge_of
-    judge_value l = rw (eq-eqb (length x) (length ns) h, ← o, lt-ltb p (length x) l)
+  pub judge_value : length x ≡ length ns → (p : ℕ) → Some p ≡ found (first_over ns x) (length x) → Err (Value p) ≡ judge_of ns (rules_at b 7 k) x
+  unfolding judge_of
+  judge_value h p o =
+      let t = found_tells p (first_over ns x) (length x) o in
+      rw (eq-eqb (length x) (length ns) h, lt-ltb (first_over ns x) (length x) t.1, t.0)
 
-    module _ (l : length x ≤ p) (u : ℕ) (e : u ≡ first_unmet (rules_at b 7 k) x) where
-      pub judge_unmet : u < k → NotMet u ≡ judge_of ns (rules_at b 7 k) x
-      unfolding judge_of
-      judge_unmet m = rw (eq-eqb (length x) (length ns) h, ← o, le-ltb p (length x) l, ← e, rules_at_length b 7 k, lt-ltb u k m)
+  pub judge_asked : length x ≡ length ns → None ≡ found (first_over ns x) (length x) → (r : Option ℕ) → r ≡ found (first_unmet (rules_at b 7 k) x) k → Ok r ≡ judge_of ns (rules_at b 7 k) x
+  unfolding judge_of
+  judge_asked h o r e =
+      rw (eq-eqb (length x) (length ns) h, le-ltb (first_over ns x) (length x) (found_not (first_over ns x) (length x) o), rules_at_length b 7 k, e)
 
-      pub judge_met : k ≤ u → Permitted ≡ judge_of ns (rules_at b 7 k) x
-      unfolding judge_of
-      judge_met m = rw (eq-eqb (length x) (length ns) h, ← o, le-ltb p (length x) l, ← e, rules_at_length b 7 k, le-ltb u k m)
+pub ruleset judge_steps = (judge_length, judge_testable, judge_value, judge_asked)
 
--- the sizes of this edition
-pub judge_alike : (b : List ℕ) (n l k m : ℕ) (x : Row) (r : Tested) → Limited n l → m ≡ n
-    → r ≡ judge_of (take l (replicate 16 m)) (rules_at b 7 k) x → r ≡ judge_of (alike n l) (rules_at b 7 k) x
-judge_alike b n l k m x r s e a = a ∙ rw (lent n l s m e)
+-- a book that was read, and its sizes as they are lent
+module _ (b : List ℕ) (d : Head) (h : Ok d ≡ read_of b) where
+  abbrev fine : Headed b d.n d.l d.family d.rules
+  fine = headed b d.n d.l d.family d.rules (sym h)
 
-pub walkable_alike : (b : List ℕ) (n l k m : ℕ) → Limited n l → m ≡ n → Walkable b (alike n l) k → Walkable b (take l (replicate 16 m)) k
-walkable_alike b n l k m s e w = rw (lent n l s m e) w
+  pub test_limited : Limited d.n d.l
+  test_limited = let w = fine.well_formed in record { some = w.n_low; few = w.n_high; wide = w.l_low; narrow = w.l_high }
 
-module _ (b : List ℕ) (x : Row) (r : Reading) (a : r ≡ read_of b) where
-  pub test_faulty : (f : Fault) → r ≡ Faulty f → Refused f ≡ tested_of b x
-  unfolding tested_of
-  test_faulty f q = rw (sym a ∙ q)
+  module _ (s : List ℕ) (o : s ≡ replicate 16 d.n) where
+    pub test_length : d.l ≡ length (take d.l s)
+    test_length = rw o (lent_length d.n d.l test_limited d.n refl)
 
-  module _ (n l family k : ℕ) (q : r ≡ Book n l family k) where
-    pub test_limited : Limited n l
-    test_limited = let w = (headed b n l family k (sym a ∙ q)).well_formed in record { some = w.n_low; few = w.n_high; wide = w.l_low; narrow = w.l_high }
+    pub test_walkable : Walkable b (take d.l s) d.rules
+    test_walkable = rw (o, lent d.n d.l test_limited d.n refl) (record { family = d.family; holds = holds_start b d.n d.l d.family d.rules (sym h) })
 
-    pub test_walkable : Walkable b (alike n l) k
-    test_walkable = record { family = family; holds = holds_start b n l family k (sym a ∙ q) }
-
-    pub test_judged : (t : Tested) → t ≡ judge_of (alike n l) (rules_at b 7 k) x → t ≡ tested_of b x
+    pub test_judged : (x : Row) (t : Result (Option ℕ) Untested) → t ≡ judge_of (take d.l s) (rules_at b 7 d.rules) x → t ≡ tested_of b x
     unfolding tested_of
-    test_judged t e = e ∙ rw (sym a ∙ q, (headed b n l family k (sym a ∙ q)).count_is)
+    test_judged x t e = e ∙ rw (o, lent d.n d.l test_limited d.n refl, ← h, fine.count_is)
+
+pub ruleset test_steps = (test_limited, test_length, test_walkable, test_judged)

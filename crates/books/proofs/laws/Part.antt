@@ -2,31 +2,23 @@
 use Prim.Native.Nat.{ℕ, zero, suc, ◌+◌, ◌-◌, ◌≤◌, ◌<◌}
 use native.Mathlib.Omega.{arith}
 use native.Mathlib.Nat.{sub-zero, add-sub_cancel_left}
-use mathlib.Core.Path.{◌≡◌, refl, sym, ◌∙◌}
+use mathlib.Core.Path.{◌≡◌, refl, ◌∙◌}
 use mathlib.Core.Logic.{inl, inr}
 use mathlib.Core.List.{List, []}
 use lib.ListN.{length, get_or, take, drop, length-take, length-drop}
 use borrow.Author.Tests.{lt-ltb, le-ltb}
+use Rattle.std.specs.Prelude.{Result, Ok, Err}
 use Rattle.meaning.specs.Rows.{Sizes, alike}
 use Rattle.meaning.specs.Bytes.{encode_rule, rule_at, end_at, rules_at, place_at, rules_in}
 use Rattle.meaning.proofs.Tests.{lt_or_le}
+use Rattle.books.specs.declared.Head.{Head}
 use Rattle.books.specs.declared.Fault.{Fault}
 use Rattle.books.specs.declared.part.RulePart.{RulePart}
-use Rattle.books.specs.declared.Reading.{Reading}
-use Rattle.books.specs.declared.Reading.TheVariants.{Book, Faulty}
-use Rattle.books.specs.Format.{read_of}
+use Rattle.books.specs.Format.{Book, read_of}
 use Rattle.books.specs.Inner.{Holds, Placed}
 use Rattle.books.specs.Part.{count_of, record_at, part_of, part_place, part_where}
 use Rattle.books.proofs.laws.Holds.{holds_start, holds_inside, holds_next, holds_record}
 use Rattle.books.proofs.laws.Accepted.{headed}
-
--- ---- how many
-module _ (b : List ℕ) (r : Reading) (a : r ≡ read_of b) where
-  pub count_book : (n l family k : ℕ) → r ≡ Book n l family k → k ≡ count_of (read_of b)
-  count_book n l family k q = rw (sym a ∙ q)
-
-  pub count_faulty : (f : Fault) → r ≡ Faulty f → 0 ≡ count_of (read_of b)
-  count_faulty f q = rw (sym a ∙ q)
 
 -- ---- the walk to a rule: more than j rules stand from p on
 pub record Ahead (b : List ℕ) (p j : ℕ) : Type 0 where
@@ -51,9 +43,9 @@ ahead_next b p j i e a = record {
 ahead_start : (b : List ℕ) (k : ℕ) → k < count_of (read_of b) → Ahead b 7 k
 ahead_start b k h = go (read_of b) refl h
   where
-    go : (r : Reading) → read_of b ≡ r → k < count_of r → Ahead b 7 k
-    go (Book n l f c) e h = record { ns = alike n l; family = f; more = c; enough = h; holds = holds_start b n l f c e }
-    go (Faulty f) e h = absurd (omega arith)
+    go : (r : Result Head Fault) → read_of b ≡ r → k < count_of r → Ahead b 7 k
+    go (Ok d) e h = record { ns = alike d.n d.l; family = d.family; more = d.rules; enough = h; holds = holds_start b d.n d.l d.family d.rules e }
+    go (Err f) e h = absurd (omega arith)
 
 pub record Walk (b : List ℕ) (k p i : ℕ) : Type 0 where
   pub whole : place_at b 7 k ≡ place_at b p (k - i)
@@ -91,6 +83,8 @@ module _ (b : List ℕ) (k c : ℕ) (n : c ≡ count_of (read_of b)) where
   unfolding part_of part_place
   where_some p w h e o = rw (← n, lt-ltb k c h, w.is, record_length b p w.inside, o)
 
+pub ruleset where_ways = (where_none, where_some)
+
 -- ---- the part is those bytes of the book
 ahead_at : (b : List ℕ) (k p : ℕ) → Ahead b p k → Ahead b (place_at b p k) 0
 unfolding place_at
@@ -124,6 +118,8 @@ module _ (b : List ℕ) (k : ℕ) where
 
     pub part_bytes : take (p.place + p.length - p.place) (drop p.place b) ≡ part_of b k
     part_bytes = rw (e, add-sub_cancel_left (part_place b k) (length (part_of b k))) whole_bytes
+
+pub ruleset part_whole = (part_inside, part_place_is, part_bytes)
 
 -- ---- what the part is: the encoding of the rule
 

@@ -1,4 +1,4 @@
--- Put: bytes written over others from a place on, and the loop that does it.
+-- Put: bytes written over others from a place on, and the loop of a crate above that does it.
 use Prim.Native.Nat.{ℕ, ◌+◌, ◌≤◌, ◌<◌}
 use native.Mathlib.Nat.{add-zero, zero-add}
 use native.Mathlib.Numerals.{add-one}
@@ -51,7 +51,7 @@ module _ (old : List ℕ) (at : ℕ) (bytes : List ℕ) where
   unfolding put_in
   put_in_not h = rw (lt-leb (at + length bytes) (length old) h)
 
--- ---- the loop that copies: the first i bytes are written
+-- ---- the loop that copies, for listing: the first i bytes are written
 pub record Copied (old : List ℕ) (at : ℕ) (bytes : List ℕ) (i : ℕ) (new : List ℕ) : Type 0 where
   pub is : new ≡ paste old at bytes i
   pub long : length new ≡ length old

@@ -3,20 +3,19 @@ use Prim.Native.Nat.{ℕ, ◌≤◌, ◌<◌}
 use native.Mathlib.Omega.{arith}
 use mathlib.Core.Path.{◌≡◌, ◌∙◌}
 use mathlib.Core.Logic.{◌↔◌, inl, inr}
-use mathlib.Core.Bool.{false, cond}
+use mathlib.Core.Bool.{false}
 use mathlib.Core.List.{List, []}
-use lib.Dec.{T, ltb}
+use lib.Dec.{T}
 use lib.ListN.{length, get_or}
 use borrow.Author.Tests.{lt-ltb, le-ltb, eq-eqb}
+use Rattle.std.specs.Prelude.{Ok}
 use Rattle.meaning.specs.Rows.{Row, alike, within}
 use Rattle.meaning.specs.Rules.{met, all_met}
 use Rattle.meaning.specs.Bytes.{rules_in}
 use Rattle.meaning.proofs.Tests.{lt_or_le}
 use Rattle.meaning.proofs.Members.{within_length}
-use Rattle.books.specs.declared.Reading.TheVariants.{Book}
-use Rattle.books.specs.declared.Tested.TheVariants.{Permitted, NotMet}
-use Rattle.books.specs.Format.{read_of}
-use Rattle.books.specs.Tested.{judge_of, tested_of, first_unmet, first_over}
+use Rattle.books.specs.Format.{Book, read_of}
+use Rattle.books.specs.Tested.{Permitted, NotMet, found, judge_of, tested_of, first_unmet, first_over}
 use Rattle.books.proofs.laws.First.{first_unmet_most, first_unmet_all, first_unmet_before, first_unmet_at, first_over_all}
 
 -- ---- what the answer says, for an accepted book
@@ -30,7 +29,7 @@ module _ (b : List ℕ) (x : Row) (n l family k : ℕ) (h : read_of b ≡ Book n
     abbrev u : ℕ
     u = first_unmet (rules_in b) x
 
-    tested_within : tested_of b x ≡ cond (ltb u (length (rules_in b))) (NotMet u) Permitted
+    tested_within : tested_of b x ≡ Ok (found u (length (rules_in b)))
     unfolding judge_of
     tested_within =
         let e : length x ≡ length (alike n l) = within_length (alike n l) x w in

@@ -5,21 +5,20 @@ use mathlib.Core.Path.{◌≡◌, refl, sym, ap, ◌∙◌}
 use mathlib.Core.List.{List, [], ◌∷◌, ◌++◌, append_assoc}
 use lib.ListN.{length, get_or, drop, length-drop}
 use borrow.Author.Tests.{le-ltb}
+use Rattle.std.specs.Prelude.{Ok}
 use Rattle.meaning.specs.Rows.{alike}
 use Rattle.meaning.specs.Rules.{Literal, Rule, at_most, at_least, setting, sign, bound, top_of, key, AllFit, Ordered, Good, AllGood}
 use Rattle.meaning.specs.Bytes.{encode_literals, encode_rule, encode_rules, encode_end, encode, WellFormed, end_at}
 use Rattle.meaning.proofs.Encoded.{Stands, stands, literals_stand, rule_stands, encode_count}
-use Rattle.books.specs.declared.Got.TheVariants.{At}
-use Rattle.books.specs.declared.Reading.TheVariants.{Book}
-use Rattle.books.specs.Format.{mark_of, field_of, order_of, bound_of, literal_of, literals_of, body_of, rule_of, rules_of, tail_of, rest_of, read_of}
+use Rattle.books.specs.Format.{Book, mark_of, field_of, order_of, bound_of, literal_of, literals_of, body_of, rule_of, rules_of, tail_of, rest_of, read_of}
 use Rattle.books.proofs.laws.Fields.{mark_got, field_got, word_got}
 
 -- ---- a field that stands there is got
 
-field_written : (b : List ℕ) (from p lo top x : ℕ) (t : List ℕ) → Stands b p x t → lo ≤ x → x < top → field_of b from p lo top ≡ At x
+field_written : (b : List ℕ) (from p lo top x : ℕ) (t : List ℕ) → Stands b p x t → lo ≤ x → x < top → field_of b from p lo top ≡ Ok x
 field_written b from p lo top x t s h k = sym (rw s.value at (field_got b from p lo top s.inside (rw s.value h) (rw s.value k)))
 
-mark_written : (b : List ℕ) (p m : ℕ) (t : List ℕ) → drop p b ≡ 82 ∷ m ∷ t → (mark_of b p m ≡ At (p + 2)) × (drop (p + 2) b ≡ t)
+mark_written : (b : List ℕ) (p m : ℕ) (t : List ℕ) → drop p b ≡ 82 ∷ m ∷ t → (mark_of b p m ≡ Ok (p + 2)) × (drop (p + 2) b ≡ t)
 mark_written b p m t h =
     let s₀ = stands b p 82 (m ∷ t) h in
     let s₁ = stands b (p + 1) m t s₀.after in
@@ -33,7 +32,7 @@ sign_two (at_most i d) = omega arith
 sign_two (at_least i d) = omega arith
 
 literals_written : (b ns : List ℕ) (from least p : ℕ) (r : Rule) (t : List ℕ) → drop p b ≡ encode_literals r ++ t → AllFit ns r → Ordered least r
-    → literals_of b ns from least p (length r) ≡ At (p + 3 * length r)
+    → literals_of b ns from least p (length r) ≡ Ok (p + 3 * length r)
 unfolding encode_literals literals_of literal_of bound_of order_of
 literals_written b ns from least p [] t h f o = let e : p + 3 * 0 ≡ p = omega arith in rw e
 literals_written b ns from least p (c ∷ r) t h f o =
@@ -48,7 +47,7 @@ literals_written b ns from least p (c ∷ r) t h f o =
     let e : p + 3 * suc (length r) ≡ p + 3 + 3 * length r = omega arith in
     rw (f₀, f₁, f₂, le-ltb (key c) least o.0, e) (literals_written b ns from (key c + 1) (p + 3) r t (rw e₃ at s₂.after) f.1 o.1)
 
-rule_written : (b ns : List ℕ) (family from : ℕ) (r : Rule) (t : List ℕ) → drop from b ≡ encode_rule r ++ t → Good ns family r → rule_of b ns family from ≡ At (end_at b from)
+rule_written : (b ns : List ℕ) (family from : ℕ) (r : Rule) (t : List ℕ) → drop from b ≡ encode_rule r ++ t → Good ns family r → rule_of b ns family from ≡ Ok (end_at b from)
 unfolding encode_rule rule_of body_of
 rule_written b ns family from r t h g =
     let m = mark_written b from 85 (length r ∷ encode_literals r ++ t) h in
@@ -61,7 +60,7 @@ rule_written b ns family from r t h g =
 
 pub record RulesWritten (b ns : List ℕ) (family p k : ℕ) (t : List ℕ) : Type 0 where
   pub end : ℕ
-  pub got : rules_of b ns family p k ≡ At end
+  pub got : rules_of b ns family p k ≡ Ok end
   pub after : drop end b ≡ t
 
 rules_written : (b ns : List ℕ) (family p : ℕ) (rs : List Rule) (t : List ℕ) → drop p b ≡ encode_rules rs ++ t → AllGood ns family rs → RulesWritten b ns family p (length rs) t

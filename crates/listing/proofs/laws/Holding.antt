@@ -1,5 +1,5 @@
 -- Holding: what a walk keeps true of the entries while it goes down and comes back.
-use Prim.Native.Nat.{ℕ, ◌≤◌}
+use Prim.Native.Nat.{ℕ, ◌≤◌, ◌<◌}
 use native.Mathlib.Omega.{arith}
 use mathlib.Core.Path.{◌≡◌, refl, sym, ◌∙◌}
 use mathlib.Core.Bool.{Bool}
@@ -45,12 +45,6 @@ held_on b s e p₀ n₀ p n y q k m h = record { kept = kept_on s e p₀ p q y.k
 
 -- ---- a look that is made only where a level is gone into
 
-pub looks_none : (b : List ℕ) (d : Row → Bool) (x : Row) (p s e : List ℕ) (from levels : ℕ) (r : Scanned) → levels ≡ 0 → LooksIf b d x p s e from levels r
-looks_none b d x p s e from levels r h = record { looks = λ z. absurd (z h) }
-
-pub looks_some : (b : List ℕ) (d : Row → Bool) (x : Row) (p s e : List ℕ) (from levels : ℕ) (r : Scanned) → Looks b d x p s e from r → LooksIf b d x p s e from levels r
-looks_some b d x p s e from levels r a = record { looks = λ z. a }
-
 -- of fewer values, and with the entries stirred
 pub looks_kept : (b : List ℕ) (d : Row → Bool) (x : Row) (p s e q : List ℕ) (from to : ℕ) (r : Scanned) → Kept s e p q → from ≤ to → Looks b d x p s e from r → Looks b d x q s e to r
 looks_kept b d x p s e q from to r k h a = record {
@@ -59,5 +53,9 @@ looks_kept b d x p s e q from to r k h a = record {
   next = λ v i l. ruled_kept b d (x ++ (v ∷ [])) s e r.at r.rules p q k (a.next v (omega arith) l);
 }
 
-pub looks_later : (b : List ℕ) (d : Row → Bool) (x : Row) (p s e q : List ℕ) (to levels : ℕ) (r : Scanned) → Kept s e p q → LooksIf b d x p s e 0 levels r → LooksIf b d x q s e to levels r
-looks_later b d x p s e q to levels r k a = record { looks = λ z. looks_kept b d x p s e q 0 to r k (omega arith) (a.looks z) }
+pub looks_later : {b : List ℕ} {d : Row → Bool} {x : Row} {p s e q : List ℕ} {to levels : ℕ} {r : Scanned} → Kept s e p q → LooksIf b d x p s e 0 levels r → LooksIf b d x q s e to levels r
+looks_later {b} {d} {x} {p} {s} {e} {q} {to} {levels} {r} k a = record { looks = λ z. looks_kept b d x p s e q 0 to r k (omega arith) (a.looks z) }
+
+-- where a level is gone into, from any value on
+pub looks_at : {b : List ℕ} {d : Row → Bool} {x : Row} {p s e : List ℕ} {to levels : ℕ} {r : Scanned} → 0 < levels → LooksIf b d x p s e 0 levels r → Looks b d x p s e to r
+looks_at {b} {d} {x} {p} {s} {e} {to} {levels} {r} h a = looks_kept b d x p s e p 0 to r (kept_same s e p) (omega arith) (a.looks (λ z. omega arith))

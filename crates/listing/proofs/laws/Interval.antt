@@ -19,26 +19,6 @@ use Rattle.meaning.proofs.Literals.{literal_setting_is, literal_bound_is}
 use Rattle.listing.specs.Inner.{forbids, between, interval_of}
 use Rattle.listing.proofs.laws.Literals.{key_low, key_high, decided_here}
 
--- ---- the ways out of `interval`
-
-module _ (b : List ℕ) (p k : ℕ) where
-  pub interval_none : k ≡ 0 → forbids 0 64 ≡ interval_of b p k
-  unfolding interval_of
-  interval_none e = rw (eq-eqb k 0 e)
-
-  module _ (h : k ≡ 0 → ⊥) (d : ℕ) (f : d ≡ get_or b (p + 2) 0) where
-    pub interval_least : (get_or b (p + 1) 0 ≡ 0 → ⊥) → forbids 0 d ≡ interval_of b p k
-    unfolding interval_of
-    interval_least g = rw (ne_eqb k 0 h, ne_eqb (get_or b (p + 1) 0) 0 g, f)
-
-    pub interval_most : get_or b (p + 1) 0 ≡ 0 → k ≡ 1 → forbids (d + 1) 64 ≡ interval_of b p k
-    unfolding interval_of
-    interval_most g e = rw (ne_eqb k 0 h, eq-eqb (get_or b (p + 1) 0) 0 g, eq-eqb k 1 e, f)
-
-    pub interval_both : get_or b (p + 1) 0 ≡ 0 → (k ≡ 1 → ⊥) → (u : ℕ) → u ≡ get_or b (p + 5) 0 → forbids (d + 1) u ≡ interval_of b p k
-    unfolding interval_of
-    interval_both g e u i = rw (ne_eqb k 0 h, eq-eqb (get_or b (p + 1) 0) 0 g, ne_eqb k 1 e, f, i)
-
 -- ---- literals that are all on the setting behind x
 
 -- above d, below d

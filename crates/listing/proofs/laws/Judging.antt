@@ -9,6 +9,7 @@ use lib.Dec.{T}
 use lib.ListN.{length, length-append, get_or}
 use lib.Seq.{append_snoc}
 use borrow.Author.Tests.{le-leb, le-ltb, not-false}
+use Rattle.std.specs.Prelude.{Option, None}
 use Rattle.meaning.specs.Rows.{Row}
 use Rattle.meaning.specs.Rules.{Rule, met}
 use Rattle.meaning.specs.Bytes.{literals_at, rule_at}
@@ -42,7 +43,7 @@ module _ (b : List ℕ) (at : ℕ) (c : Cursor) (plain : Plain c) (s : Stands b 
   longer v = omega (arith, length-append x (v ∷ []))
 
   -- met by all that begin with the prefix
-  judges_met : ((y : Row) → met r (x ++ y) ≡ true) → (hint : ℕ) → Judges b at x (record { lasts = false; low = 0; high = 0; hint = hint })
+  judges_met : ((y : Row) → met r (x ++ y) ≡ true) → (hint : Option ℕ) → Judges b at x (record { lasts = false; low = 0; high = 0; hint = hint })
   judges_met h hint = record { small = omega arith; values = λ v k. never (v ∷ []) ∙ sym (rw (le-leb 0 v (omega arith), le-ltb v 0 (omega arith))); closed = λ e v y k. never (v ∷ y) }
     where
       never : (y : Row) → dead (r ∷ []) (x ++ y) ≡ false
@@ -67,7 +68,7 @@ module _ (b : List ℕ) (at : ℕ) (c : Cursor) (plain : Plain c) (s : Stands b 
       last_is m z = let q : at + 3 * count ≡ at + 3 + 3 * m = omega arith in rw (f, q)
 
       pub judges_past : last < c.len → Judges b at x (forbids 0 0)
-      judges_past h = judges_met (λ y. met_prefix r x y (ends (get_or b (at + 2) 0) refl) ∙ met_here) 0
+      judges_past h = judges_met (λ y. met_prefix r x y (ends (get_or b (at + 2) 0) refl) ∙ met_here) None
         where
           ends : (k : ℕ) → get_or b (at + 2) 0 ≡ k → T (decided (length x) (literals_at b (at + 3) k))
           ends zero z = absurd (some (omega arith))
@@ -84,14 +85,14 @@ module _ (b : List ℕ) (at : ℕ) (c : Cursor) (plain : Plain c) (s : Stands b 
         passed : w ≡ early_of b x (at + 3) (get_or b (at + 2) 0)
         passed = g ∙ ap (early_of b x (at + 3)) e
 
-        pub judges_holds : (q : ℕ) → w ≡ Holds q → (hint : ℕ) → Judges b at x (record { lasts = false; low = 0; high = 0; hint = hint })
+        pub judges_holds : (q : ℕ) → w ≡ Holds q → (hint : Option ℕ) → Judges b at x (record { lasts = false; low = 0; high = 0; hint = hint })
         judges_holds q t hint = judges_met (early_holds b x (at + 3) (get_or b (at + 2) 0) q (sym passed ∙ t)) hint
 
         module _ (q m : ℕ) (t : w ≡ Left q m) where
           pub judged_inside : q + 3 * m ≤ length b
           judged_inside = omega (arith, early_inside b x (at + 3) (get_or b (at + 2) 0) q m (sym passed ∙ t), s.inside)
 
-          pub judges_lasts : c.len < last → Judges b at x (record { lasts = true; low = 0; high = 0; hint = 0 })
+          pub judges_lasts : c.len < last → Judges b at x (record { lasts = true; low = 0; high = 0; hint = None })
           judges_lasts h = record {
             small = omega arith;
             values = λ v k. dead_one r (x ++ (v ∷ [])) ∙ rw (longer v, is_no (decided (suc (length x)) r) (goes_on (get_or b (at + 2) 0) refl), le-leb 0 v (omega arith), le-ltb v 0 (omega arith));

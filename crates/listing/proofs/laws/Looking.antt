@@ -12,14 +12,13 @@ use Rattle.meaning.specs.Rows.{Row, at}
 use Rattle.meaning.specs.Rules.{holds, met}
 use Rattle.meaning.specs.Bytes.{literal_at, literals_at, rule_at, rules_at}
 use Rattle.meaning.specs.Listing.{dead, decided}
-use Rattle.meaning.proofs.Tests.{case, is, isnt, lt_or_le}
+use Rattle.meaning.proofs.Tests.{case, is, isnt}
 use Rattle.meaning.proofs.Dead.{holds_prefix}
 use Rattle.meaning.proofs.Literals.{literal_setting_is}
 use Rattle.listing.specs.declared.cursor.Cursor.{Cursor}
-use Rattle.listing.specs.declared.scan.Judged.{Judged}
 use Rattle.listing.specs.declared.scan.Scanned.{Scanned}
 use Rattle.listing.specs.Cursors.{prefix_of}
-use Rattle.listing.specs.Inner.{Plain, Stands, Judges, forbidden, Forbids, Window, Scans, Hit, Ruled, Shows, Asks, Askable, Killer, Asked, Open, Looks}
+use Rattle.listing.specs.Inner.{Plain, forbidden, Window, Scans, Hit, Ruled, Shows, Asks, Askable, Asked, Open, Looks}
 use Rattle.listing.proofs.laws.Prefixes.{plain_length}
 use Rattle.literals.proofs.laws.Holding.{holds_by_literal}
 use Rattle.listing.proofs.laws.Judging.{dead_one}
@@ -37,9 +36,6 @@ met_at b p (suc k) (suc j) z h e =
 
 pub never_dead : (b : List ℕ) (p : ℕ) (z : Row) → met (rule_at b p) z ≡ true → dead (rule_at b p ∷ []) z ≡ false
 never_dead b p z m = dead_one (rule_at b p) z ∙ rw m (and-false (decided (length z) (rule_at b p)))
-
-pub shows_not : (b : List ℕ) (p : ℕ) (x : Row) → Shows b p x false
-shows_not b p x = record { met_by = λ e. absurd (true≢false (sym e)) }
 
 module _ (b : List ℕ) (p : ℕ) (c : Cursor) (plain : Plain c) (hint count : ℕ) where
   pub shows_by : (hint ≡ 0 → ⊥) → count ≡ get_or b (p + 2) 0 → hint ≤ count → (i : ℕ) → i ≡ get_or b (p + 3 * hint) 0 → i < c.len
@@ -64,9 +60,6 @@ module _ (b : List ℕ) (p : ℕ) (x : Row) (old : ℕ) where
   pub asks_still : (r : Bool) → Shows b p x r → r ≡ true → Asks b p x old old
   asks_still r s t = record { is = λ v h. sym (ap (λ (u : Bool). u || forbidden old v) (never_dead b p (x ++ (v ∷ [])) (s.met_by t (v ∷ [])))) }
 
-  pub asks_judged : (j : Judged) → Judges b p x j → (new : ℕ) → Forbids old j.low j.high new → Asks b p x old new
-  asks_judged j g new f = record { is = λ v h. f.is v h ∙ ap (λ (u : Bool). u || forbidden old v) (sym (g.values v h)) }
-
 -- ---- the entries from lo up to below hi
 
 pub record Asking (b : List ℕ) (x : Row) (p : List ℕ) (lo hi n m set i : ℕ) : Type 0 where
@@ -85,42 +78,6 @@ asking_start b x p lo hi n a = record {
     all = λ v h k. absurd (omega (arith, k.above, k.under));
   };
 }
-
-module _ (b : List ℕ) (x : Row) (p : List ℕ) (lo hi n m set i : ℕ) (a : Askable b x p lo hi n) (y : Asking b x p lo hi n m set i) where
-  pub asking_next : i < hi → (e : ℕ) → e ≡ get_or p i 0 → Stands b e × (dead (rule_at b e ∷ []) x ≡ false) × (i < m)
-  asking_next h e f = let t = a.entries i y.above h in rw f (t.0, t.1, omega (arith, y.long, a.hints))
-
-  pub asking_on : i < hi → (e : ℕ) → e ≡ get_or p i 0 → (new : ℕ) → Asks b e x set new → (m' : ℕ) → m' ≡ m → Asking b x p lo hi n m' new (i + 1)
-  asking_on h e f new s m' l = record {
-    above = omega (arith, y.above);
-    under = omega arith;
-    long = l ∙ y.long;
-    done = record { missing = λ v k t. missing v k t; all = λ v k t. all v k t };
-  }
-    where
-      here : (v : ℕ) → v < 64 → forbidden new v ≡ dead (rule_at b (get_or p i 0) ∷ []) (x ++ (v ∷ [])) || forbidden set v
-      here v k = s.is v k ∙ ap (λ (u : ℕ). dead (rule_at b u ∷ []) (x ++ (v ∷ [])) || forbidden set v) f
-
-      missing : (v : ℕ) → v < 64 → forbidden new v ≡ true → Killer b p lo (i + 1) (x ++ (v ∷ []))
-      missing v k t = elim (case (dead (rule_at b (get_or p i 0) ∷ []) (x ++ (v ∷ [])))) [
-        | is u ↦ record { at = i; above = y.above; under = omega arith; kills = u }
-        | isnt u ↦
-            let old = y.done.missing v k (sym (rw u at (here v k)) ∙ t) in
-            record { at = old.at; above = old.above; under = omega (arith, old.under); kills = old.kills }
-      ]
-
-      all : (v : ℕ) → v < 64 → Killer b p lo (i + 1) (x ++ (v ∷ [])) → forbidden new v ≡ true
-      all v k t = elim (lt_or_le t.at i) [
-        | inl l ↦
-            here v k ∙ ap (λ (u : Bool). dead (rule_at b (get_or p i 0) ∷ []) (x ++ (v ∷ [])) || u) (y.done.all v k (record { at = t.at; above = t.above; under = l; kills = t.kills }))
-            ∙ or-true (dead (rule_at b (get_or p i 0) ∷ []) (x ++ (v ∷ [])))
-        | inr l ↦
-            let same : t.at ≡ i = omega (arith, t.under) in
-            here v k ∙ ap (λ (u : Bool). u || forbidden set v) (rw same at t.kills)
-      ]
-
-  pub asking_end : hi ≤ i → Asked b x p lo hi set
-  asking_end h = let e : i ≡ hi = omega (arith, y.under) in (rw e at y.done)
 
 -- ---- the whole look
 

@@ -4,11 +4,13 @@ use native.Mathlib.Omega.{arith}
 use mathlib.Core.Path.{◌≡◌, refl, sym, ap, ◌∙◌}
 use mathlib.Core.Bool.{Bool, true, false}
 use mathlib.Core.Logic.{◌⊎◌, inl, inr}
-use mathlib.Core.List.{List}
+use mathlib.Core.List.{List, [], ◌∷◌}
+use Rattle.std.specs.List.{swap}
+use Rattle.std.proofs.lemmas.List.{get_or_default}
 use lib.ListN.{length, length-set, get_or, set}
 use lib.Seq.{get_or-set_same, get_or-set_other}
 use Rattle.meaning.proofs.Order.{compare}
-use Rattle.listing.specs.Inner.{Has, Stirred, swap_of, settle_list, settle_count, Parted}
+use Rattle.listing.specs.Inner.{Has, Stirred, swap_of, settle_list, settle_count}
 
 pub eq_or : (a b : ℕ) → (a ≡ b) ⊎ (a ≡ b → ⊥)
 eq_or a b = elim (compare a b) [
@@ -94,13 +96,14 @@ module _ (p : List ℕ) (i k : ℕ) (hi : i < length p) (hk : k < length p) wher
 
 -- ---- the loop: of the elements before i those that are not wanted stand from k on
 
-pub settle_no : (b : Bool) (p : List ℕ) (i k : ℕ) → b ≡ false → (p ≡ settle_list b p i k) × (k ≡ settle_count b k)
-unfolding settle_list settle_count
-settle_no b p i k h = rw h (refl, refl)
+-- within the list `swap` takes no default
+swap_same : (p : List ℕ) (i k : ℕ) → i < length p → k < length p → swap p i k ≡ swap_of p i k
+swap_same [] i k h g = absurd (omega arith)
+swap_same (d ∷ ys) i k h g = rw (get_or_default (d ∷ ys) i d 0 h, get_or_default (d ∷ ys) k d 0 g)
 
-pub settle_yes : (b : Bool) (p : List ℕ) (i k : ℕ) → b ≡ true → (swap_of p i k ≡ settle_list b p i k) × (k + 1 ≡ settle_count b k)
+pub settle_yes : (b : Bool) (p : List ℕ) (i k : ℕ) → b ≡ true → i < length p → k < length p → (q : List ℕ) → q ≡ swap p i k → (q ≡ settle_list b p i k) × (k + 1 ≡ settle_count b k)
 unfolding settle_list settle_count
-settle_yes b p i k h = rw h (refl, refl)
+settle_yes b p i k h m n q e = rw h (e ∙ swap_same p i k m n, refl)
 
 module _ (wanted : ℕ → Bool) (p : List ℕ) (lo hi : ℕ) where
   pub record Parting (q : List ℕ) (i k : ℕ) : Type 0 where
@@ -111,16 +114,7 @@ module _ (wanted : ℕ → Bool) (p : List ℕ) (lo hi : ℕ) where
     pub chosen : (j : ℕ) → lo ≤ j → j < k → wanted (get_or q j 0) ≡ true
     pub left : (j : ℕ) → k ≤ j → j < i → wanted (get_or q j 0) ≡ false
 
-  pub parting_start : lo ≤ hi → Parting p lo lo
-  parting_start h = record { from = omega arith; behind = omega arith; upto = h; stirred = stirred_same p lo hi; chosen = λ j a b. absurd (omega arith); left = λ j a b. absurd (omega arith) }
-
   module _ (q : List ℕ) (i k : ℕ) (y : Parting q i k) where
-    pub parting_end : hi ≤ i → Parted wanted p lo hi q k
-    parting_end h = record { from = y.from; upto = omega (arith, y.behind, y.upto); stirred = y.stirred; chosen = y.chosen; left = λ j a b. y.left j a (omega arith) }
-
-    pub parting_inside : hi ≤ length p → i < hi → (i < length q) × (k < length q)
-    parting_inside g h = (omega (arith, y.stirred.long), omega (arith, y.stirred.long, y.behind))
-
     pub parting_on : hi ≤ length p → i < hi → (e : ℕ) → e ≡ get_or q i 0 → (b : Bool) → b ≡ wanted e
         → (r : List ℕ) (m : ℕ) → (r ≡ settle_list b q i k) × (m ≡ settle_count b k) → Parting r (i + 1) m
     unfolding settle_list settle_count

@@ -14,8 +14,7 @@ use Rattle.meaning.specs.Lists.{is_nil}
 use Rattle.meaning.specs.Rows.{Row, Sizes, alike, begins}
 use Rattle.meaning.specs.Bytes.{rules_in}
 use Rattle.meaning.specs.Listing.{dead, visits, shown, front, Page, after, page}
-use Rattle.books.specs.declared.Reading.TheVariants.{Book}
-use Rattle.books.specs.Format.{read_of}
+use Rattle.books.specs.Format.{Book, read_of}
 use Rattle.meaning.proofs.Tests.{is_yes}
 use Rattle.meaning.proofs.Listing.{run, all_rows, all_steps}
 use Rattle.meaning.proofs.Visited.{begins_nil}

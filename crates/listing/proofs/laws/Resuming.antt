@@ -5,27 +5,25 @@ use native.Mathlib.Omega.{arith}
 use mathlib.Core.Path.{◌≡◌, refl, sym, ap, ◌∙◌}
 use mathlib.Core.Bool.{Bool, true, false}
 use mathlib.Core.List.{List, [], ◌∷◌, ◌++◌}
-use lib.ListN.{length, get_or, drop, drop_of_length-le}
+use lib.ListN.{length, get_or, drop}
 use lib.Seq.{drop-cons, get_or-take}
 use Rattle.meaning.specs.Rows.{Row, Sizes}
-use Rattle.meaning.specs.Listing.{below}
 use Rattle.listing.specs.declared.cursor.Cursor.{Cursor}
 use Rattle.listing.specs.declared.scan.Scanned.{Scanned}
 use Rattle.listing.specs.declared.steps.Walk.{Walk}
 use Rattle.listing.specs.Cursors.{prefix_of}
-use Rattle.listing.specs.Inner.{Plain, push_of, forbidden, Kept, Ruled, Open, Looks, Narrowed, Trims, part, from_of, past_of, S, inward_of, runs, Ready, OpenIf, LooksIf, Allows, Along}
+use Rattle.listing.specs.Inner.{Plain, push_of, forbidden, Kept, Ruled, Open, Looks, Narrowed, Trims, part, from_of, past_of, S, inward_of, runs, Ready, OpenIf, Along}
 use Rattle.listing.proofs.laws.Ruled.{ruled_kept}
 use Rattle.listing.proofs.laws.Turns.{inward_less}
 use Rattle.listing.proofs.laws.Trimming.{ruled_trimmed}
 use Rattle.listing.proofs.laws.Prefixes.{plain_length, push_prefix, push_plain}
-use Rattle.listing.proofs.laws.Course.{part_cons, below_from}
+use Rattle.listing.proofs.laws.Course.{part_cons}
 use Rattle.listing.proofs.laws.Steps.{runs_nil, runs_append}
 
 -- ---- what a look below cur tells of the prefix one longer
 
-module _ (b : List ℕ) (d : Row → Bool) (ns : Sizes) (room : List ℕ) (cur : Cursor) (levels fit : ℕ) (p st e : List ℕ) (s : Scanned)
-    (y : Ready ns room cur levels fit) (z : 0 < levels) (v : ℕ) (a : Looks b d (prefix_of cur) p st e v s)
-    (h : v < get_or ns cur.len 0) (next : Cursor) (n : next ≡ push_of cur v) where
+module _ {b : List ℕ} {d : Row → Bool} {ns : Sizes} {room : List ℕ} {cur : Cursor} {levels fit : ℕ} {p st e : List ℕ} {s : Scanned} {v : ℕ} {next : Cursor}
+    (y : Ready ns room cur levels fit) (z : 0 < levels) (a : Looks b d (prefix_of cur) p st e v s) (h : v < get_or ns cur.len 0) (n : next ≡ push_of cur v) where
   longer : prefix_of next ≡ prefix_of cur ++ (v ∷ [])
   longer = ap (λ (u : Cursor). prefix_of u) n ∙ push_prefix cur v y.plain (omega (arith, y.deep, y.limited.short))
 
@@ -84,6 +82,20 @@ past_none d (n ∷ ns) p [] h = rw h
 past_none d [] p (v ∷ c) h = refl
 past_none d (n ∷ ns) p (v ∷ c) h = rw h
 
+-- c goes on behind cur with a value of the next setting
+module _ {ns : Sizes} {o : List ℕ} {c cur : Cursor} {levels fit : ℕ} (y : Ready ns o cur levels fit) (a : Along ns c cur levels) (k : cur.len ≡ c.len → ⊥) where
+  pub resume_small : (cur.len < 16) × (get_or c.values cur.len 0 < get_or ns cur.len 0) × (get_or c.values cur.len 0 < 64) × (0 < levels)
+  resume_small =
+      let f = a.fits cur.len (omega (arith, a.here)) in
+      (omega (arith, y.deep, y.limited.short, a.here, a.deep), f, omega (arith, y.limited.few cur.len (omega (arith, y.deep, a.here, a.deep))), omega (arith, a.here, a.deep))
+
+  pub resume_next : {next : Cursor} → next ≡ push_of cur (get_or c.values cur.len 0) → Ready ns o next (levels - 1) fit × Along ns c next (levels - 1)
+  resume_next {next} n =
+      let long : next.len ≡ cur.len + 1 = ap (λ (u : Cursor). u.len) n in (
+        record { cells = y.cells; plain = rw n (push_plain cur (get_or c.values cur.len 0) y.plain resume_small.0); deep = omega (arith, y.deep, resume_small.3, long); limited = y.limited },
+        record { plain = a.plain; here = omega (arith, a.here, long); deep = omega (arith, a.deep, resume_small.3, long); fits = a.fits },
+      )
+
 module _ (d : Row → Bool) (ns : Sizes) (c cur : Cursor) (levels fit budget : ℕ) (st : Walk) (o : List ℕ) where
   -- the whole, as the contract has it
   abbrev pub resume_of : S
@@ -97,35 +109,10 @@ module _ (d : Row → Bool) (ns : Sizes) (c cur : Cursor) (levels fit budget : �
       ∙ ap (λ (L : List Row). runs d (length ns) fit budget L (st, o)) (sym (past_none d (part ns q.len k) (prefix_of q) (drop q.len (prefix_of c)) h))
 
   module _ (y : Ready ns o cur levels fit) (a : Along ns c cur levels) (live : d (prefix_of cur) ≡ false) where
-    -- cur is c: all that is below it
-    pub resume_here : cur.len ≡ c.len → (r : Walk) (o₁ : List ℕ)
-        → ◌≡◌ {A = S} (r, o₁) (runs d (length ns) fit budget (from_of d (part ns cur.len levels) (prefix_of cur) 0) (st, o)) → ◌≡◌ {A = S} (r, o₁) resume_of
-    resume_here k r o₁ q =
-        let none : drop cur.len (prefix_of c) ≡ [] = drop_of_length-le (prefix_of c) {i = cur.len} (omega (arith, plain_length c a.plain)) in
-        let into : below d (part ns cur.len levels) (prefix_of cur) ≡ from_of d (part ns cur.len levels) (prefix_of cur) 0 =
-        rw live at (below_from d (part ns cur.len levels) (prefix_of cur)) in
-        q ∙ ap (λ (L : List Row). runs d (length ns) fit budget L (st, o)) (sym into)
-        ∙ ap (λ (x : Row). runs d (length ns) fit budget (past_of d (part ns cur.len levels) (prefix_of cur) x) (st, o)) (sym none)
-
     module _ (k : cur.len ≡ c.len → ⊥) where
-      -- c goes on with a value of the next setting
-      pub resume_small : (cur.len < 16) × (get_or c.values cur.len 0 < get_or ns cur.len 0) × (get_or c.values cur.len 0 < 64) × (0 < levels)
-      resume_small =
-          let f = a.fits cur.len (omega (arith, a.here)) in
-          (omega (arith, y.deep, y.limited.short, a.here, a.deep), f, omega (arith, y.limited.few cur.len (omega (arith, y.deep, a.here, a.deep))), omega (arith, a.here, a.deep))
-
       module _ (next : Cursor) (n : next ≡ push_of cur (get_or c.values cur.len 0)) where
         abbrev v : ℕ
         v = get_or c.values cur.len 0
-
-        next_len : next.len ≡ cur.len + 1
-        next_len = ap (λ (u : Cursor). u.len) n
-
-        pub resume_next : Ready ns o next (levels - 1) fit × Along ns c next (levels - 1)
-        resume_next = (
-          record { cells = y.cells; plain = rw n (push_plain cur v y.plain resume_small.0); deep = omega (arith, y.deep, resume_small.3, next_len); limited = y.limited },
-          record { plain = a.plain; here = omega (arith, a.here, next_len); deep = omega (arith, a.deep, resume_small.3, next_len); fits = a.fits },
-        )
 
         -- what is below c's own next value, then from the value after it on
         pub resume_on : (w : Walk) (o₁ : List ℕ)
@@ -133,15 +120,17 @@ module _ (d : Row → Bool) (ns : Sizes) (c cur : Cursor) (levels fit budget : �
             → (r : Walk) (o₂ : List ℕ) → ◌≡◌ {A = S} (r, o₂) (runs d (length ns) fit budget (from_of d (part ns cur.len levels) (prefix_of cur) (v + 1)) (w, o₁))
             → ◌≡◌ {A = S} (r, o₂) resume_of
         resume_on w o₁ m r o₂ q =
+            let small = resume_small y a k in
+            let long : next.len ≡ cur.len + 1 = ap (λ (u : Cursor). u.len) n in
             let deeper : Sizes = part ns (cur.len + 1) (levels - 1) in
-            let x : prefix_of next ≡ prefix_of cur ++ (v ∷ []) = ap (λ (u : Cursor). prefix_of u) n ∙ push_prefix cur v y.plain resume_small.0 in
+            let x : prefix_of next ≡ prefix_of cur ++ (v ∷ []) = ap (λ (u : Cursor). prefix_of u) n ∙ push_prefix cur v y.plain small.0 in
             let lc = plain_length c a.plain in
             let in_c : cur.len < c.len = omega (arith, a.here) in
             let cons : drop cur.len (prefix_of c) ≡ v ∷ drop (cur.len + 1) (prefix_of c) =
             drop-cons (prefix_of c) cur.len 0 (omega arith) ∙ rw (get_or-take c.len c.values cur.len 0 in_c, add-one cur.len) in
-            let sizes : part ns cur.len levels ≡ get_or ns cur.len 0 ∷ deeper = part_cons ns cur.len levels (omega (arith, resume_small.3)) in
+            let sizes : part ns cur.len levels ≡ get_or ns cur.len 0 ∷ deeper = part_cons ns cur.len levels (omega (arith, small.3)) in
             let m' : ◌≡◌ {A = S} (w, o₁) (runs d (length ns) fit budget (past_of d deeper (prefix_of cur ++ (v ∷ [])) (drop (cur.len + 1) (prefix_of c))) (st, o)) =
-            m ∙ ap (λ (i : ℕ). runs d (length ns) fit budget (past_of d (part ns i (levels - 1)) (prefix_of next) (drop i (prefix_of c))) (st, o)) next_len
+            m ∙ ap (λ (i : ℕ). runs d (length ns) fit budget (past_of d (part ns i (levels - 1)) (prefix_of next) (drop i (prefix_of c))) (st, o)) long
             ∙ ap (λ (u : Row). runs d (length ns) fit budget (past_of d deeper u (drop (cur.len + 1) (prefix_of c))) (st, o)) x in
             let split : past_of d (part ns cur.len levels) (prefix_of cur) (drop cur.len (prefix_of c))
             ≡ past_of d deeper (prefix_of cur ++ (v ∷ [])) (drop (cur.len + 1) (prefix_of c)) ++ from_of d (part ns cur.len levels) (prefix_of cur) (v + 1) =
@@ -155,22 +144,3 @@ module _ (d : Row → Bool) (ns : Sizes) (c cur : Cursor) (levels fit budget : �
             → (r : Walk) (o₂ : List ℕ) → ◌≡◌ {A = S} (r, o₂) (runs d (length ns) fit budget (from_of d (part ns cur.len levels) (prefix_of cur) (v + 1)) (st, o))
             → ◌≡◌ {A = S} (r, o₂) resume_of
         resume_skip h r o₂ q = resume_on st o (below_dead next (levels - 1) h) r o₂ q
-
--- ---- the last level
-
-module _ (b : List ℕ) (d : Row → Bool) (ns : Sizes) (cur : Cursor) (levels fit : ℕ) (one : levels ≡ 1) where
-  pub one_ready : (o : List ℕ) → Ready ns o cur levels fit → Ready ns o cur 1 fit
-  one_ready o y = rw one at y
-
-  pub one_allows : (p st e : List ℕ) (from : ℕ) (s : Scanned) → LooksIf b d (prefix_of cur) p st e from levels s → Allows d (prefix_of cur) s.allowed
-  one_allows p st e from s a = record { is = λ v h. (a.looks (λ z. omega arith)).values v h }
-
-  pub one_below : (budget from : ℕ) (st r : Walk) (o o₁ : List ℕ) → ◌≡◌ {A = S} (r, o₁) (runs d (length ns) fit budget (from_of d (part ns cur.len 1) (prefix_of cur) from) (st, o))
-      → ◌≡◌ {A = S} (r, o₁) (runs d (length ns) fit budget (from_of d (part ns cur.len levels) (prefix_of cur) from) (st, o))
-  one_below budget from st r o o₁ h = rw one h
-
-pub looks_values : (b : List ℕ) (d : Row → Bool) (x : Row) (p st e : List ℕ) (from : ℕ) (s : Scanned) → Looks b d x p st e from s → Allows d x s.allowed
-looks_values b d x p st e from s a = record { is = a.values }
-
-pub looks_allows : (b : List ℕ) (d : Row → Bool) (x : Row) (p st e : List ℕ) (from levels : ℕ) (s : Scanned) → (levels ≡ 0 → ⊥) → LooksIf b d x p st e from levels s → Allows d x s.allowed
-looks_allows b d x p st e from levels s z a = record { is = (a.looks z).values }

@@ -1,34 +1,23 @@
 -- Sifting: the entries that a prefix leaves open go to the front; and the fronts of the groups made shorter below a prefix.
 use Prim.Native.Nat.{ℕ, ◌+◌, ◌≤◌, ◌<◌}
 use native.Mathlib.Omega.{arith}
-use mathlib.Core.Path.{◌≡◌, refl, sym, ap, ◌∙◌}
-use mathlib.Core.Bool.{Bool, true, false, true≢false}
+use mathlib.Core.Path.{◌≡◌, refl, sym, ◌∙◌}
+use mathlib.Core.Bool.{Bool, false, true≢false}
 use mathlib.Core.Logic.{inl, inr}
 use mathlib.Core.List.{List, [], ◌∷◌, ◌++◌, append_assoc}
 use lib.ListN.{length, length-set, get_or, set}
 use lib.Seq.{get_or-set_same, get_or-set_other}
 use Rattle.meaning.specs.Rows.{Row}
-use Rattle.meaning.specs.Bytes.{rule_at, end_at}
+use Rattle.meaning.specs.Bytes.{rule_at}
 use Rattle.meaning.specs.Listing.{dead}
 use Rattle.meaning.proofs.Tests.{lt_or_le}
 use Rattle.listing.specs.declared.scan.Passed.{Passed}
 use Rattle.listing.specs.declared.scan.Passed.TheVariants.{Holds, Left}
 use Rattle.listing.specs.Inner.{early_of, settle_list, settle_count, Parted, Laid, Kept, Hit, Ruled, is_open, open_of, Siftable, Narrowable, Narrowed}
 use Rattle.listing.proofs.laws.Literals.{early_holds}
-use Rattle.listing.proofs.laws.Parting.{eq_or, Parting, parting_start, parting_on, parting_end}
+use Rattle.listing.proofs.laws.Parting.{eq_or, Parting, parting_on}
 use Rattle.listing.proofs.laws.Ruled.{kept_same, kept_on, kept_wider, kept_stirred, ruled_kept}
 use Rattle.listing.proofs.laws.Looking.{never_dead}
-
--- ---- the ways out of `leaves_open`
-
-module _ (b : List ℕ) (x : Row) (p count : ℕ) (e : count ≡ get_or b (p + 2) 0) where
-  pub open_holds : (w : Passed) → w ≡ early_of b x (p + 3) count → (q : ℕ) → w ≡ Holds q → false ≡ open_of b x p
-  unfolding open_of is_open
-  open_holds w f q t = let u : early_of b x (p + 3) (get_or b (p + 2) 0) ≡ Holds q = sym (ap (early_of b x (p + 3)) e) ∙ sym f ∙ t in rw u
-
-  pub open_left : (w : Passed) → w ≡ early_of b x (p + 3) count → (q m : ℕ) → w ≡ Left q m → true ≡ open_of b x p
-  unfolding open_of is_open
-  open_left w f q m t = let u : early_of b x (p + 3) (get_or b (p + 2) 0) ≡ Left q m = sym (ap (early_of b x (p + 3)) e) ∙ sym f ∙ t in rw u
 
 -- what the prefix does not leave open is met below it
 not_open : (b : List ℕ) (x : Row) (p : ℕ) → open_of b x p ≡ false → (y : Row) → dead (rule_at b p ∷ []) (x ++ y) ≡ false
@@ -46,24 +35,10 @@ pub record Sifting (w : ℕ → Bool) (p : List ℕ) (lo hi n : ℕ) (q : List �
   pub long : m ≡ n
 
 module _ (b : List ℕ) (w : ℕ → Bool) (p : List ℕ) (lo hi n : ℕ) (a : Siftable b p lo hi n) where
-  pub sifting_start : Sifting w p lo hi n p n lo lo
-  sifting_start = record { parting = parting_start w p lo hi a.low; long = refl }
-
   module _ (q : List ℕ) (m i k : ℕ) (y : Sifting w p lo hi n q m i k) where
-    pub sifting_inside : i < hi → (i < length q) × (k < length q) × (length q ≤ m)
-    sifting_inside h = (omega (arith, y.parting.stirred.long, a.inside), omega (arith, y.parting.stirred.long, y.parting.behind, a.inside), omega (arith, y.parting.stirred.long, y.long, a.hints))
-
-    pub sifting_ends : i < hi → (e : ℕ) → e ≡ get_or q i 0 → end_at b e ≤ length b
-    sifting_ends h e f =
-        let t = y.parting.stirred.back i (omega (arith, y.parting.from, y.parting.behind)) h in
-        rw (f ∙ sym t.is) (a.ends t.at t.above t.under)
-
     pub sifting_on : i < hi → (e : ℕ) → e ≡ get_or q i 0 → (u : Bool) → u ≡ w e
         → (r : List ℕ) (o : ℕ) → (r ≡ settle_list u q i k) × (o ≡ settle_count u k) → (m' : ℕ) → m' ≡ m → Sifting w p lo hi n r m' (i + 1) o
     sifting_on h e f u g r o s m' l = record { parting = parting_on w p lo hi q i k y.parting a.inside h e f u g r o s; long = l ∙ y.long }
-
-    pub sifting_end : hi ≤ i → Parted w p lo hi q k
-    sifting_end h = parting_end w p lo hi q i k y.parting h
 
 -- ---- the fronts below a prefix
 
@@ -76,19 +51,8 @@ pub record Narrowing (b : List ℕ) (x : Row) (p s e q f : List ℕ) (n m g : �
   pub able : Narrowable b q s f m
   pub done : Narrowed b x p s e q f
 
-pub narrowing_start : (b : List ℕ) (x : Row) (p s e : List ℕ) (n g : ℕ) → Narrowable b p s e n → Narrowing b x p s e p e n n g
-narrowing_start b x p s e n g a = record { long = refl; first = a.laid; able = a; done = narrowed_none b x p s e n a }
-
 module _ (b : List ℕ) (x : Row) (p s e q f : List ℕ) (n m g : ℕ) (y : Narrowing b x p s e q f n m g) (h : g < 16)
     (lo hi : ℕ) (from : lo ≡ get_or s g 0) (end : hi ≡ get_or f g 0) where
-  pub narrowing_next : Siftable b q lo hi m
-  narrowing_next = rw (from, end) (record {
-    low = y.able.laid.low g h;
-    inside = omega (arith, y.able.laid.front g h, y.able.laid.inside g h);
-    hints = y.able.hints;
-    ends = λ i a c. y.able.ends g i h a c;
-  })
-
   module _ (r : List ℕ) (k : ℕ) (parted : Parted (open_of b x) q lo hi r k) (m' : ℕ) (same : m' ≡ m) where
     t : Parted (open_of b x) q (get_or s g 0) (get_or f g 0) r k
     t = rw (from, end) at parted
@@ -164,6 +128,3 @@ module _ (b : List ℕ) (x : Row) (p s e q f : List ℕ) (n m g : ℕ) (y : Narr
         ruled = λ d at n u. cut d at n (ruled_kept b d x s f at n q r moved (y.done.ruled d at n u));
       };
     }
-
-pub narrowing_end : (b : List ℕ) (x : Row) (p s e q f : List ℕ) (n m g : ℕ) → Narrowing b x p s e q f n m g → Narrowed b x p s e q f
-narrowing_end b x p s e q f n m g y = y.done

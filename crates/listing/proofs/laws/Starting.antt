@@ -1,14 +1,13 @@
 -- Starting: what a page's walk asks at its start, and the start itself: a rule without literals ends it, else it resumes from the root.
-use Prim.Native.Nat.{ℕ, zero, suc, ◌+◌, ◌*◌, ◌-◌, ◌≤◌, ◌<◌}
+use Prim.Native.Nat.{ℕ, zero, suc, ◌+◌, ◌-◌, ◌≤◌, ◌<◌}
 use native.Mathlib.Nat.{sub-zero}
 use native.Mathlib.Omega.{arith}
 use mathlib.Core.Path.{◌≡◌, sym, ap, ◌∙◌}
-use mathlib.Core.Bool.{Bool, true, false, ◌||◌}
+use mathlib.Core.Bool.{Bool, true, false}
 use mathlib.Core.List.{List, []}
-use lib.Dec.{ltb}
 use lib.ListN.{length, get_or, take}
 use lib.Seq.{get_or-take}
-use borrow.Author.Tests.{lt-ltb, le-ltb}
+use borrow.Author.Tests.{le-ltb}
 use Rattle.meaning.specs.Rows.{Row, Sizes}
 use Rattle.meaning.specs.Rules.{setting, met}
 use Rattle.meaning.specs.Bytes.{literal_at, literals_at, end_at, rules_at, rules_in}
@@ -64,19 +63,10 @@ module _ (b : List ℕ) (rules at i : ℕ) (y : Seeking b rules at i) where
       pub seeking_yes : count ≡ 0 → true ≡ dead (rules_at b 7 rules) []
       seeking_yes z = sym (y.left ∙ dead_root b at (rules - i) (omega arith) count e z)
 
-      pub seeking_on : (count ≡ 0 → ⊥) → Seeking b rules (at + 3 + 3 * count) (i + 1)
-      seeking_on z =
-          let p : at + 3 + 3 * count ≡ end_at b at = omega arith in
+      pub seeking_on : (count ≡ 0 → ⊥) → (next : ℕ) → next ≡ end_at b at → Seeking b rules next (i + 1)
+      seeking_on z next p =
           let k : rules - i - 1 ≡ rules - (i + 1) = omega arith in
           rw p (record { inside = omega arith; stand = seeking_head.1; left = y.left ∙ live_root b at (rules - i) (omega arith) count e z ∙ rw k })
-
--- ---- the ways out of `little`
-
-pub little_steps : (rules budget : ℕ) → budget < 8 → true ≡ ltb budget 8 || ltb rules 32
-little_steps rules budget h = rw (lt-ltb budget 8 h)
-
-pub little_rules : (rules budget : ℕ) → 8 ≤ budget → ltb rules 32 ≡ ltb budget 8 || ltb rules 32
-little_rules rules budget h = rw (le-ltb budget 8 h)
 
 -- ---- the start
 
@@ -85,7 +75,7 @@ module _ (b : List ℕ) (rules : ℕ) (ns : Sizes) (room : List ℕ) (c : Cursor
   d = dead (rules_in b)
 
   abbrev w₀ : Walk
-  w₀ = record { last = c; dead = 0; rows = 0; steps = 0 }
+  w₀ = record { last = c; dead = false; rows = 0; steps = 0 }
 
   abbrev pub start_of : S
   start_of = runs d (length ns) fit budget (past_of d ns [] (prefix_of c)) (w₀, room)
@@ -133,6 +123,3 @@ module _ (b : List ℕ) (rules : ℕ) (ns : Sizes) (room : List ℕ) (c : Cursor
     start_on st w o h =
         h ∙ ap (λ (x : Cursor). resume_of d ns c x (length ns) fit budget st room) r
         ∙ ap (λ (t : Sizes). runs d (length ns) fit budget (past_of d t [] (prefix_of c)) (st, room)) (part_all ns)
-
-  pub start_live : (t : Bool) → t ≡ dead (rules_at b 7 rules) [] → t ≡ false → dead (rules_at b 7 rules) [] ≡ false
-  start_live t e h = sym e ∙ h

@@ -2,7 +2,7 @@
 use Prim.Native.Nat.{ℕ, zero, suc, ◌+◌, ◌*◌, ◌-◌, ◌≤◌, ◌<◌}
 use native.Mathlib.Omega.{arith}
 use mathlib.Core.Path.{◌≡◌, refl, sym, ap, ◌∙◌}
-use mathlib.Core.Bool.{Bool, true, false, true≢false}
+use mathlib.Core.Bool.{Bool, true}
 use mathlib.Core.Logic.{inl, inr}
 use mathlib.Core.List.{List, [], ◌∷◌, ◌++◌, append_assoc}
 use lib.Dec.{leb}
@@ -21,43 +21,23 @@ use Rattle.listing.proofs.laws.Looking.{met_at, never_dead}
 
 -- ---- one rule
 
-pub passes_not : (b : List ℕ) (p i v : ℕ) → Passes b p i v false
-passes_not b p i v = record { met_by = λ e. absurd (true≢false (sym e)) }
-
--- so many literals are left to look at, from place q on
-pub record Passing (b : List ℕ) (p q left : ℕ) : Type 0 where
-  pub few : left ≤ get_or b (p + 2) 0
-  pub place : q + 3 * left ≡ p + 3 + 3 * get_or b (p + 2) 0
-
-pub passing_start : (b : List ℕ) (p count : ℕ) → count ≡ get_or b (p + 2) 0 → Passing b p (p + 3) count
-passing_start b p count e = record { few = omega arith; place = omega arith }
-
-module _ (b : List ℕ) (p q left : ℕ) (y : Passing b p q left) where
-  pub passing_inside : end_at b p ≤ length b → 0 < left → q + 3 ≤ length b
-  passing_inside h k = omega (arith, y.place)
-
-  pub passing_on : 0 < left → Passing b p (q + 3) (left - 1)
-  passing_on h = record { few = omega (arith, y.few); place = omega (arith, y.place) }
-
-  -- a literal of the sign "at least" on setting i
-  pub passes_by : 0 < left → (i v k : ℕ) → k ≡ get_or b q 0 → k ≡ i → (get_or b (q + 1) 0 ≡ 0 → ⊥) → Passes b p i v (leb (get_or b (q + 2) 0) v)
-  unfolding holds_by
-  passes_by h i v k e f g = record { met_by = λ t x z u l m. by t x z u l m }
-    where
-      by : leb (get_or b (q + 2) 0) v ≡ true → (x z : Row) (u : ℕ) → length x ≡ i → v ≤ u → met (rule_at b p) (x ++ (u ∷ z)) ≡ true
-      by t x z u l m =
-          let here : at (x ++ (u ∷ z)) (get_or b q 0) ≡ u = ap (at (x ++ (u ∷ z))) (sym e ∙ f ∙ sym l) ∙ get_or-append_seam x u z 0 in
-          let says : holds_by (get_or b (q + 1) 0) (get_or b (q + 2) 0) u ≡ true =
-          rw (ne_eqb (get_or b (q + 1) 0) 0 g) (le-leb (get_or b (q + 2) 0) u (omega (arith, leb-true (get_or b (q + 2) 0) v t))) in
-          let held : holds (literal_at b q) (x ++ (u ∷ z)) ≡ true =
-          sym (holds_by_literal (get_or b (q + 1) 0) (get_or b q 0) (get_or b (q + 2) 0) (x ++ (u ∷ z))) ∙ ap (holds_by (get_or b (q + 1) 0) (get_or b (q + 2) 0)) here ∙ says in
-          let place : q ≡ p + 3 + 3 * (get_or b (p + 2) 0 - left) = omega (arith, y.place, y.few) in
-          met_at b (p + 3) (get_or b (p + 2) 0) (get_or b (p + 2) 0 - left) (x ++ (u ∷ z)) (omega (arith, y.few)) (rw place at held)
+-- literal j has the sign "at least" and is on setting i
+pub passes_by : (b : List ℕ) (p i v j : ℕ) → j < get_or b (p + 2) 0 → (k : ℕ) → k ≡ get_or b (p + 3 + 3 * j) 0 → k ≡ i → (get_or b (p + 3 + 3 * j + 1) 0 ≡ 0 → ⊥)
+    → Passes b p i v (leb (get_or b (p + 3 + 3 * j + 2) 0) v)
+unfolding holds_by
+passes_by b p i v j h k e f g = record { met_by = λ t x z u l m. by t x z u l m }
+  where
+    by : leb (get_or b (p + 3 + 3 * j + 2) 0) v ≡ true → (x z : Row) (u : ℕ) → length x ≡ i → v ≤ u → met (rule_at b p) (x ++ (u ∷ z)) ≡ true
+    by t x z u l m =
+        let here : at (x ++ (u ∷ z)) (get_or b (p + 3 + 3 * j) 0) ≡ u = ap (at (x ++ (u ∷ z))) (sym e ∙ f ∙ sym l) ∙ get_or-append_seam x u z 0 in
+        let says : holds_by (get_or b (p + 3 + 3 * j + 1) 0) (get_or b (p + 3 + 3 * j + 2) 0) u ≡ true =
+        rw (ne_eqb (get_or b (p + 3 + 3 * j + 1) 0) 0 g) (le-leb (get_or b (p + 3 + 3 * j + 2) 0) u (omega (arith, leb-true (get_or b (p + 3 + 3 * j + 2) 0) v t))) in
+        let held : holds (literal_at b (p + 3 + 3 * j)) (x ++ (u ∷ z)) ≡ true =
+        sym (holds_by_literal (get_or b (p + 3 + 3 * j + 1) 0) (get_or b (p + 3 + 3 * j) 0) (get_or b (p + 3 + 3 * j + 2) 0) (x ++ (u ∷ z)))
+        ∙ ap (holds_by (get_or b (p + 3 + 3 * j + 1) 0) (get_or b (p + 3 + 3 * j + 2) 0)) here ∙ says in
+        met_at b (p + 3) (get_or b (p + 2) 0) j (x ++ (u ∷ z)) h held
 
 -- ---- the run
-
-pub trims_none : (b : List ℕ) (p k i v : ℕ) → AllStand b p k → Trims b p k i v p k
-trims_none b p k i v s = record { few = omega arith; stand = s; same = λ x y u h l. refl }
 
 first_gone : (b : List ℕ) (q left : ℕ) (z : Row) → 0 < left → met (rule_at b q) z ≡ true → dead (rules_at b q left) z ≡ dead (rules_at b (end_at b q) (left - 1)) z
 unfolding rules_at
@@ -66,20 +46,22 @@ first_gone b q (suc k) z h m =
     let e : suc k - 1 ≡ k = omega arith in
     dead_append (rule_at b q ∷ []) (rules_at b (end_at b q) k) z ∙ rw (never_dead b q z m, e)
 
-stand_next : (b : List ℕ) (q left : ℕ) → 0 < left → AllStand b q left → Stands b q × AllStand b (end_at b q) (left - 1)
+pub stand_next : (b : List ℕ) (q left : ℕ) → 0 < left → AllStand b q left → Stands b q × AllStand b (end_at b q) (left - 1)
 stand_next b q zero h s = absurd (omega arith)
 stand_next b q (suc k) h s = let e : suc k - 1 ≡ k = omega arith in rw e s
 
-module _ (b : List ℕ) (p k i v q left : ℕ) (y : Trims b p k i v q left) (h : 0 < left) where
-  pub trims_inside : end_at b q ≤ length b
-  trims_inside = (stand_next b q left h y.stand).0.inside
+pub stand_on : (b : List ℕ) (q n i q₁ : ℕ) → AllStand b q (n - i) → i < n → q₁ ≡ end_at b q → AllStand b q₁ (n - (i + 1))
+stand_on b q n i q₁ s h e = let z : n - (i + 1) ≡ n - i - 1 = omega arith in rw (e, z) (stand_next b q (n - i) (omega arith) s).1
 
-  pub trims_on : (r : Bool) → Passes b q i v r → r ≡ true → (q₁ : ℕ) → q₁ ≡ end_at b q → Trims b p k i v q₁ (left - 1)
-  trims_on r a t q₁ e = rw e (record {
-    few = omega (arith, y.few);
-    stand = (stand_next b q left h y.stand).1;
-    same = λ x z u l m. y.same x z u l m ∙ first_gone b q left (x ++ (u ∷ z)) h (a.met_by t x z u l m);
-  })
+module _ (b : List ℕ) (p k i v q n : ℕ) (y : Trims b p k i v q (k - n)) (h : n < k) where
+  pub trims_on : (r : Bool) → Passes b q i v r → r ≡ true → (q₁ : ℕ) → q₁ ≡ end_at b q → Trims b p k i v q₁ (k - (n + 1))
+  trims_on r a t q₁ e =
+      let z : k - (n + 1) ≡ k - n - 1 = omega arith in
+      rw (e, z) (record {
+        few = omega arith;
+        stand = (stand_next b q (k - n) (omega arith) y.stand).1;
+        same = λ x z u l m. y.same x z u l m ∙ first_gone b q (k - n) (x ++ (u ∷ z)) (omega arith) (a.met_by t x z u l m);
+      })
 
 -- what decides below x with a value from v on
 pub ruled_trimmed : (b : List ℕ) (d : Row → Bool) (x : Row) (p s e : List ℕ) (at k q left v u : ℕ) → Trims b at k (length x) v q left → v ≤ u

@@ -5,16 +5,16 @@ use native.Mathlib.Omega.{arith}
 use mathlib.Core.Path.{◌≡◌, refl, sym, ap, ◌∙◌}
 use mathlib.Core.Bool.{Bool, true, false, cond}
 use mathlib.Core.List.{List, [], ◌∷◌, ◌++◌}
+use mathlib.Core.Logic.{◌⊎◌, inl, inr}
 use lib.Dec.{eqb}
 use lib.ListN.{length, get_or}
-use borrow.Author.Tests.{eq-eqb, ne_eqb, eqb-true}
+use borrow.Author.Tests.{ne_eqb}
 use Rattle.meaning.specs.Rows.{Row, Sizes}
 use Rattle.meaning.specs.Listing.{below}
-use Rattle.meaning.proofs.Tests.{case, is, isnt}
 use Rattle.listing.specs.declared.cursor.Cursor.{Cursor}
 use Rattle.listing.specs.declared.steps.Walk.{Walk}
 use Rattle.listing.specs.Cursors.{prefix_of}
-use Rattle.listing.specs.Inner.{Plain, push_of, forbidden, part, branch_of, from_of, S, walk_of, move_of, inward_of, goes_on, visit_of, runs, Ready, left_at, whole_of, Going, Allows, skip_of, Skips, Turns}
+use Rattle.listing.specs.Inner.{Plain, push_of, forbidden, part, branch_of, from_of, S, walk_of, move_of, inward_of, goes_on, visit_of, runs, Ready, left_at, whole_of, Going, Allows, behind_of, Skips, Turns}
 use Rattle.listing.proofs.laws.Prefixes.{push_same, push_prefix}
 use Rattle.listing.proofs.laws.Course.{part_cons, stop_at, below_from}
 use Rattle.listing.proofs.laws.Steps.{runs_nil, runs_cons, runs_append, runs_shut, shut_rows, shut_steps, open_both, move_short, ready_same}
@@ -34,16 +34,16 @@ module _ (d : Row → Bool) (ns : Sizes) (cur : Cursor) (levels fit budget : ℕ
     going_shut : Going d ns cur levels fit budget from st o₀ o w v → goes_on fit budget w ≡ false → ◌≡◌ {A = S} (w, o) (whole_of d ns cur levels fit budget from (st, o₀))
     going_shut g h = sym (runs_shut d (length ns) fit budget (left_at d ns cur levels fit budget (get_or ns cur.len 0) v) (w, o) h) ∙ g.left
 
-    pub going_rows : Going d ns cur levels fit budget from st o₀ o w v → fit ≤ w.rows → ◌≡◌ {A = S} (w, o) (whole_of d ns cur levels fit budget from (st, o₀))
-    going_rows g h = going_shut g (shut_rows fit budget w h)
-
-    pub going_steps : Going d ns cur levels fit budget from st o₀ o w v → budget ≤ w.steps → ◌≡◌ {A = S} (w, o) (whole_of d ns cur levels fit budget from (st, o₀))
-    going_steps g h = going_shut g (shut_steps fit budget w h)
-
-    pub going_end : Going d ns cur levels fit budget from st o₀ o w v → get_or ns cur.len 0 ≤ v → ◌≡◌ {A = S} (w, o) (whole_of d ns cur levels fit budget from (st, o₀))
-    going_end g h =
-        let e : get_or ns cur.len 0 - v ≡ 0 = omega arith in
-        sym (runs_nil d (length ns) fit budget (w, o)) ∙ (rw e at g.left)
+    -- the ways out of a loop: no room for a row, no step in the budget, or no value left
+    pub going_out : Going d ns cur levels fit budget from st o₀ o w v → ((fit ≤ w.rows) ⊎ (budget ≤ w.steps)) ⊎ (get_or ns cur.len 0 ≤ v)
+        → ◌≡◌ {A = S} (w, o) (whole_of d ns cur levels fit budget from (st, o₀))
+    going_out g c = elim c [
+      | inl t ↦ elim t [
+        | inl h ↦ going_shut g (shut_rows fit budget w h)
+        | inr h ↦ going_shut g (shut_steps fit budget w h)
+      ]
+      | inr h ↦ let e : get_or ns cur.len 0 - v ≡ 0 = omega arith in sym (runs_nil d (length ns) fit budget (w, o)) ∙ (rw e at g.left)
+    ]
 
     -- one value: its visit, and what is below it
     pub turn : Plain cur → cur.len < 16 → v < get_or ns cur.len 0 → w.rows < fit → w.steps < budget
@@ -139,31 +139,28 @@ module _ (d : Row → Bool) (ns : Sizes) (cur : Cursor) (fit budget : ℕ) (from
       dead : b ≡ d (prefix_of next)
       dead = f ∙ ap (forbidden set) e ∙ a.is v (omega (arith, leaf_small v refl)) ∙ ap d (sym longer)
 
+-- ---- the walk with its last prefix set
+
+pub behind_rows : (t : Walk) (cur : Cursor) (v u : ℕ) → (behind_of t cur v u).rows ≡ t.rows
+behind_rows t cur v u = go (eqb u v)
+  where
+    go : (b : Bool) → (cond b t (walk_of (push_of cur (u - 1)) t.dead t.rows t.steps)).rows ≡ t.rows
+    go true = refl
+    go false = refl
+
+pub behind_steps : (t : Walk) (cur : Cursor) (v u : ℕ) → (behind_of t cur v u).steps ≡ t.steps
+behind_steps t cur v u = go (eqb u v)
+  where
+    go : (b : Bool) → (cond b t (walk_of (push_of cur (u - 1)) t.dead t.rows t.steps)).steps ≡ t.steps
+    go true = refl
+    go false = refl
+
 -- ---- a run of dead values: only the steps and the last prefix change
 
 module _ (d : Row → Bool) (ns : Sizes) (cur : Cursor) (fit budget : ℕ) where
-  pub skips_none : (w : Walk) (v : ℕ) → Skips d ns cur fit budget w v w v
-  skips_none w v = record { ahead = omega arith; on = λ levels from st o₀ o g. g }
-
-  pub record Skipping (w : Walk) (v steps u : ℕ) : Type 0 where
-    pub count : steps ≡ w.steps + (u - v)
-    pub skips : Skips d ns cur fit budget w v (skip_of w cur v u) u
-
-  pub skipping_start : (w : Walk) (v : ℕ) → Skipping w v w.steps v
-  skipping_start w v = record { count = omega arith; skips = rw (eq-eqb v v refl) (skips_none w v) }
-
-  skip_rows : (w : Walk) (v u : ℕ) → (skip_of w cur v u).rows ≡ w.rows
-  skip_rows w v u = go (eqb u v)
-    where
-      go : (t : Bool) → (cond t w (walk_of (push_of cur (u - 1)) true w.rows (w.steps + (u - v)))).rows ≡ w.rows
-      go true = refl
-      go false = refl
-
-  skip_steps : (w : Walk) (v u : ℕ) → (skip_of w cur v u).steps ≡ w.steps + (u - v)
-  skip_steps w v u = elim (case (eqb u v)) [
-    | is t ↦ rw t (let e = eqb-true u v t in omega arith)
-    | isnt t ↦ rw t
-  ]
+  pub record Skipping (w : Walk) (v : ℕ) (t : Walk) (u : ℕ) : Type 0 where
+    pub rows_are : t.rows ≡ w.rows
+    pub skips : Skips d ns cur fit budget w v (behind_of t cur v u) u
 
   -- one dead value
   dead_turn : (levels from : ℕ) (st : Walk) (o₀ o : List ℕ) (w : Walk) (u : ℕ) → Plain cur → cur.len < 16 → u < get_or ns cur.len 0 → w.rows < fit → w.steps < budget
@@ -174,40 +171,23 @@ module _ (d : Row → Bool) (ns : Sizes) (cur : Cursor) (fit budget : ℕ) where
     left = sym (rw (e, runs_nil d (length ns) fit budget (walk_of (push_of cur u) true w.rows (w.steps + 1), o)) at (turn d ns cur levels fit budget from st o₀ o w u p h k r m)) ∙ g.left;
   }
 
-  module _ (w : Walk) (v steps u : ℕ) (y : Skipping w v steps u) where
-    pub skipping_on : Plain cur → cur.len < 16 → u < get_or ns cur.len 0 → get_or ns cur.len 0 ≤ 64 → w.rows < fit → steps < budget
-        → (set : ℕ) → Allows d (prefix_of cur) set → (i : ℕ) → i ≡ u → (t : Bool) → t ≡ forbidden set i → t ≡ true → Skipping w v (steps + 1) (u + 1)
-    skipping_on p h k small r m set a i e t f z = record {
-      count = omega (arith, y.count, y.skips.ahead);
-      skips = record {
-        ahead = omega (arith, y.skips.ahead);
-        on = λ levels from st o₀ o g.
-            rw (same) (dead_turn levels from st o₀ o (skip_of w cur v u) u p h k (omega (arith, skip_rows w v u)) (omega (arith, skip_steps w v u, y.count)) kills (y.skips.on levels from st o₀ o g));
-      };
-    }
-      where
-        kills : d (prefix_of cur ++ (u ∷ [])) ≡ true
-        kills = sym (a.is u (omega arith)) ∙ sym (ap (forbidden set) e) ∙ sym f ∙ z
+  pub skipping_on : {w : Walk} {v : ℕ} {t : Walk} {u : ℕ} → Skipping w v t u → Plain cur → cur.len < 16 → u < get_or ns cur.len 0 → get_or ns cur.len 0 ≤ 64
+      → w.rows < fit → t.steps < budget → (set : ℕ) → Allows d (prefix_of cur) set → (i : ℕ) → i ≡ u → (b : Bool) → b ≡ forbidden set i → b ≡ true
+      → Skipping w v (record { last = t.last; dead = true; rows = t.rows; steps = t.steps + 1 }) (u + 1)
+  skipping_on {w} {v} {t} {u} y p h k small r m set a i e b f z = record {
+    rows_are = y.rows_are;
+    skips = record {
+      ahead = omega (arith, y.skips.ahead);
+      on = λ levels from st o₀ o g.
+          rw same (dead_turn levels from st o₀ o (behind_of t cur v u) u p h k (omega (arith, behind_rows t cur v u, y.rows_are)) (omega (arith, behind_steps t cur v u)) kills (y.skips.on levels from st o₀ o g));
+    };
+  }
+    where
+      kills : d (prefix_of cur ++ (u ∷ [])) ≡ true
+      kills = sym (a.is u (omega arith)) ∙ sym (ap (forbidden set) e) ∙ sym f ∙ z
 
-        same : skip_of w cur v (u + 1) ≡ walk_of (push_of cur u) true (skip_of w cur v u).rows ((skip_of w cur v u).steps + 1)
-        same =
-            let n : u + 1 - 1 ≡ u = omega arith in
-            let q : w.steps + (u + 1 - v) ≡ w.steps + (u - v) + 1 = omega (arith, y.skips.ahead) in
-            rw (ne_eqb (u + 1) v (λ c. omega (arith, y.skips.ahead)), skip_rows w v u, skip_steps w v u, n, q)
-
-    pub skipping_end : (r : Walk) (x : ℕ) → (r ≡ skip_of w cur v u) × (x ≡ u) → Skips d ns cur fit budget w v r x
-    skipping_end r x e = rw (e.0, e.1) y.skips
-
-  -- from the walk behind the run on, the whole is the same
-  pub skips_whole : (levels : ℕ) (w : Walk) (v : ℕ) (r : Walk) (u : ℕ) (o : List ℕ) → (levels ≡ 0 → ⊥) → Skips d ns cur fit budget w v r u
-      → whole_of d ns cur levels fit budget u (r, o) ≡ whole_of d ns cur levels fit budget v (w, o)
-  skips_whole levels w v r u o z s =
-      sym (going_start d ns cur levels fit budget u r o z).left ∙ (s.on levels v w o o (going_start d ns cur levels fit budget v w o z)).left
-
--- the ways out of `after_run`
-pub skipped_none : (cur : Cursor) (w : Walk) (v u : ℕ) → u ≡ v → w ≡ skip_of w cur v u
-skipped_none cur w v u e = rw (eq-eqb u v e)
-
-pub skipped_some : (cur : Cursor) (w : Walk) (v u steps : ℕ) → (u ≡ v → ⊥) → steps ≡ w.steps + (u - v) → (q : Cursor) → q ≡ push_of cur (u - 1) → (r : Walk) → r ≡ walk_of q true w.rows steps
-    → r ≡ skip_of w cur v u
-skipped_some cur w v u steps n e q f r g = g ∙ rw (ne_eqb u v n, f, e)
+      same : behind_of (record { last = t.last; dead = true; rows = t.rows; steps = t.steps + 1 }) cur v (u + 1)
+          ≡ walk_of (push_of cur u) true (behind_of t cur v u).rows ((behind_of t cur v u).steps + 1)
+      same =
+          let n : u + 1 - 1 ≡ u = omega arith in
+          rw (ne_eqb (u + 1) v (λ c. omega (arith, y.skips.ahead)), behind_rows t cur v u, behind_steps t cur v u, n)

@@ -5,9 +5,8 @@ use native.Mathlib.Omega.{arith}
 use mathlib.Core.Path.{◌≡◌, refl, sym, ap, ◌∙◌}
 use mathlib.Core.Bool.{Bool, true, false, ◌||◌, or-false, true≢false}
 use mathlib.Core.List.{List, [], ◌∷◌, ◌++◌, append-nil}
-use lib.Dec.{eqb}
 use lib.Seq.{append_snoc}
-use borrow.Author.Tests.{eq-eqb, ne_eqb, eqb-true}
+use Rattle.std.specs.Prelude.{Option, Some, None}
 use Rattle.meaning.specs.Rows.{Row}
 use Rattle.meaning.specs.Rules.{Rule}
 use Rattle.meaning.specs.Bytes.{rule_at, end_at, rules_at, place_at}
@@ -18,27 +17,17 @@ use Rattle.listing.specs.declared.scan.Span.{Span}
 use Rattle.listing.specs.Inner.{AllStand, Stands, Judges, forbidden, Forbids, Window, Scans, widen_of}
 use Rattle.listing.proofs.laws.Standing.{place_add, place_next, rules_add, rules_split, stand_at, stand_part}
 
--- ---- the ways out of `widen`
-
-module _ (w : Span) (lasts : Bool) (at i : ℕ) where
-  pub widen_not : lasts ≡ false → w ≡ widen_of w lasts at i
-  unfolding widen_of
-  widen_not h = rw h
-
-  pub widen_first : lasts ≡ true → w.end ≡ 0 → ◌≡◌ {A = Span} (record { at = at; first = i; end = i + 1 }) (widen_of w lasts at i)
-  unfolding widen_of
-  widen_first h e = rw (h, eq-eqb w.end 0 e)
-
-  pub widen_more : lasts ≡ true → (w.end ≡ 0 → ⊥) → ◌≡◌ {A = Span} (record { at = w.at; first = w.first; end = i + 1 }) (widen_of w lasts at i)
-  unfolding widen_of
-  widen_more h e = rw (h, ne_eqb w.end 0 e)
-
 -- ---- the loop of the scan: i rules from place `from` on are judged
 
 module _ (b : List ℕ) (from : ℕ) (x : Row) (set : ℕ) where
   -- with the value v the first i rules leave x alive
   abbrev Lives : ℕ → ℕ → Type 0
   Lives i v = dead (rules_at b from i) (x ++ (v ∷ [])) ≡ false
+
+  -- a span; none at all is the one before the first rule
+  abbrev span_of : Option Span → Span
+  span_of None = record { at = from; first = 0; end = 0 }
+  span_of (Some w) = w
 
   -- the rules before the span and those behind it make no prefix dead below a live one
   pub record Spans (w : Span) (i : ℕ) : Type 0 where
@@ -47,13 +36,13 @@ module _ (b : List ℕ) (from : ℕ) (x : Row) (set : ℕ) where
     pub lead : (v : ℕ) (y : Row) → Lives i v → dead (rules_at b from w.first) (x ++ (v ∷ y)) ≡ false
     pub tail : (v : ℕ) (y : Row) → Lives i v → dead (rules_at b (place_at b from w.end) (i - w.end)) (x ++ (v ∷ y)) ≡ false
 
-  pub record Scanning (rules allowed : ℕ) (w : Span) (at i : ℕ) : Type 0 where
+  pub record Scanning (rules allowed : ℕ) (w : Option Span) (at i : ℕ) : Type 0 where
     pub inside : i ≤ rules
     pub place : at ≡ place_at b from i
     pub values : (v : ℕ) → v < 64 → forbidden allowed v ≡ dead (rules_at b from i) (x ++ (v ∷ [])) || forbidden set v
-    pub spans : Spans w i
+    pub spans : Spans (span_of w) i
 
-  pub scanning_start : (rules : ℕ) → Scanning rules set (record { at = from; first = 0; end = 0 }) from 0
+  pub scanning_start : (rules : ℕ) → Scanning rules set None from 0
   unfolding rules_at place_at dead
   scanning_start rules = record {
     inside = omega arith;
@@ -112,8 +101,8 @@ module _ (b : List ℕ) (from : ℕ) (x : Row) (set : ℕ) where
       tail = λ v y l. none_behind v y;
     }
 
-  pub scanning_on : (rules allowed : ℕ) (w : Span) (at i : ℕ) → Scanning rules allowed w at i → i < rules
-      → (j : Judged) → Judges b at x j → (new : ℕ) → Forbids allowed j.low j.high new → (w' : Span) → w' ≡ widen_of w j.lasts at i
+  pub scanning_on : (rules allowed : ℕ) (w : Option Span) (at i : ℕ) → Scanning rules allowed w at i → i < rules
+      → (j : Judged) → Judges b at x j → (new : ℕ) → Forbids allowed j.low j.high new → (w' : Option Span) → w' ≡ widen_of w j.lasts at i
       → (at' : ℕ) → at' ≡ end_at b at → Scanning rules new w' at' (i + 1)
   unfolding widen_of
   scanning_on rules allowed w at i s h j g new f w' q at' r = record {
@@ -122,7 +111,7 @@ module _ (b : List ℕ) (from : ℕ) (x : Row) (set : ℕ) where
     values = λ v k.
         f.is v k ∙ rw (s.values v k, ← g.values v k, s.place, dead_next from i (x ++ (v ∷ [])))
         (turned (dead (rule_at b (place_at b from i) ∷ []) (x ++ (v ∷ []))) (dead (rules_at b from i) (x ++ (v ∷ []))) (forbidden set v));
-    spans = rw q (go j.lasts refl (eqb w.end 0) refl);
+    spans = rw q (go w s.spans j.lasts refl);
   }
     where
       turned : (p q r : Bool) → p || (q || r) ≡ (q || p) || r
@@ -131,10 +120,10 @@ module _ (b : List ℕ) (from : ℕ) (x : Row) (set : ℕ) where
       turned false true r = refl
       turned false false r = refl
 
-      go : (t : Bool) → j.lasts ≡ t → (z : Bool) → eqb w.end 0 ≡ z → Spans (widen_of w t at i) (i + 1)
-      go false e z k = spans_not w i s.spans (λ v y. rw s.place at (g.closed e v y))
-      go true e true k = rw k (spans_first w i s.spans at s.place (eqb-true w.end 0 k))
-      go true e false k = rw k (spans_more w i s.spans)
+      go : (w : Option Span) → Spans (span_of w) i → (t : Bool) → j.lasts ≡ t → Spans (span_of (widen_of w t at i)) (i + 1)
+      go w k false e = spans_not (span_of w) i k (λ v y. rw s.place at (g.closed e v y))
+      go None k true e = spans_first (span_of None) i k at s.place refl
+      go (Some w) k true e = spans_more w i k
 
 -- ---- what the scan asks for, and what it comes to
 
@@ -148,23 +137,23 @@ module _ (b : List ℕ) (d : Row → Bool) (x : Row) (from rules set : ℕ) (y :
       (or_none b from x set (dead (rules_at b from i) x) (dead (rule_at b (place_at b from i) ∷ []) x) (sym (dead_next b from x set from i x) ∙ front)).1
 
   -- what is asked for the next rule
-  pub scanning_next : d x ≡ false → (allowed : ℕ) (w : Span) (at i : ℕ) → Scanning b from x set rules allowed w at i → i < rules
+  pub scanning_next : d x ≡ false → (allowed : ℕ) (w : Option Span) (at i : ℕ) → Scanning b from x set rules allowed w at i → i < rules
       → Stands b at × (dead (rule_at b at ∷ []) x ≡ false)
   scanning_next l allowed w at i s h = rw s.place (stand_at b from rules i y.stand h, window_live l i h)
 
-  pub scanning_end : (allowed : ℕ) (w : Span) (at i : ℕ) → Scanning b from x set rules allowed w at i → rules ≤ i
-      → Scans b d x set (record { allowed = allowed; at = w.at; rules = w.end - w.first })
+  pub scanning_end : (allowed : ℕ) (w : Option Span) (at i : ℕ) → Scanning b from x set rules allowed w at i → rules ≤ i
+      → Scans b d x set (record { allowed = allowed; at = (span_of b from x set w).at; rules = (span_of b from x set w).end - (span_of b from x set w).first })
   scanning_end allowed w at i s h =
       let e : i ≡ rules = omega (arith, s.inside) in
-      record { values = λ v k. let q : dead (rules_at b from i) (x ++ (v ∷ [])) ≡ d (x ++ (v ∷ [])) = rw e (sym (y.tells (v ∷ []))) in s.values v k ∙ ap (λ (t : Bool). t || forbidden set v) q; stand = standing (rw e at s.spans); window = λ v l. next v l (rw e at s.spans) }
+      record { values = λ v k. let q : dead (rules_at b from i) (x ++ (v ∷ [])) ≡ d (x ++ (v ∷ [])) = rw e (sym (y.tells (v ∷ []))) in s.values v k ∙ ap (λ (t : Bool). t || forbidden set v) q; stand = standing (span_of b from x set w) (rw e at s.spans); window = λ v l. next v l (span_of b from x set w) (rw e at s.spans) }
     where
-      standing : Spans b from x set w rules → AllStand b w.at (w.end - w.first)
-      standing p = rw p.place (stand_part b from rules w.first (w.end - w.first) y.stand (omega (arith, p.ordered.0, p.ordered.1)))
+      standing : (w : Span) → Spans b from x set w rules → AllStand b w.at (w.end - w.first)
+      standing w p = rw p.place (stand_part b from rules w.first (w.end - w.first) y.stand (omega (arith, p.ordered.0, p.ordered.1)))
 
-      next : (v : ℕ) → d (x ++ (v ∷ [])) ≡ false → Spans b from x set w rules → Window b d (x ++ (v ∷ [])) w.at (w.end - w.first)
-      next v l p = record {
+      next : (v : ℕ) → d (x ++ (v ∷ [])) ≡ false → (w : Span) → Spans b from x set w rules → Window b d (x ++ (v ∷ [])) w.at (w.end - w.first)
+      next v l w p = record {
         few = omega (arith, y.few, p.ordered.1);
-        stand = standing p;
+        stand = standing w p;
         tells = λ z. rw (append_snoc x v z, p.place) (y.tells (v ∷ z) ∙ middle z);
       }
         where

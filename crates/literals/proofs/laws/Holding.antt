@@ -1,21 +1,24 @@
 -- Holding: when a literal holds, by its bytes; and the loop to the first that does.
-use Prim.Native.Nat.{ℕ, zero, suc, ◌+◌, ◌-◌, ◌≤◌, ◌<◌}
+use Prim.Native.Nat.{ℕ, zero, suc, ◌+◌, ◌<◌}
 use native.Mathlib.Omega.{arith}
-use native.Mathlib.Nat.{sub-zero, add-zero}
-use mathlib.Core.Path.{◌≡◌, refl, sym, ◌∙◌}
+use native.Mathlib.Nat.{add-zero}
+use mathlib.Core.Path.{◌≡◌, refl, ◌∙◌}
 use mathlib.Core.Bool.{Bool, true, false, cond}
-use mathlib.Core.List.{List}
+use mathlib.Core.List.{List, [], ◌∷◌, ◌++◌}
 use lib.Dec.{leb, ltb}
+use Rattle.std.specs.Prelude.{Option, Some, None}
+use Rattle.std.specs.Option.{is_some}
+use Rattle.std.proofs.lemmas.Bool.{lt-ltb, le-ltb}
 use lib.ListN.{length, get_or}
 use borrow.Author.Tests.{eq-eqb, ne_eqb}
 use Rattle.meaning.specs.Rows.{Row, at}
-use Rattle.meaning.specs.Rules.{holds, met}
-use Rattle.meaning.specs.Bytes.{literal, literal_at, literals_at}
+use Rattle.meaning.specs.Rules.{Rule, holds, met}
+use Rattle.meaning.specs.Bytes.{literal, literal_at}
 use Rattle.meaning.specs.Inner.{first_held}
-use Rattle.meaning.proofs.Literals.{literals_length}
+use Rattle.meaning.proofs.Literals.{literal_setting_is}
 use Rattle.meaning.proofs.MetLaws.{met_held}
-use Rattle.literals.specs.Inner.{holds_by, Askable}
-use Rattle.literals.proofs.laws.Places.{At, at_start, at_on, Left, left_start, left_on, literals_on, literals_none}
+use Rattle.literals.specs.Inner.{holds_by, literals_in, found, Known}
+use Rattle.literals.proofs.laws.Chunks.{literals_first, literals_over}
 
 -- ---- one literal
 
@@ -37,36 +40,56 @@ holds_by_literal (suc g) i d x = rw (ne_eqb (suc g) 0 (λ e. omega arith))
 pub holds_at : (b : List ℕ) (p i : ℕ) (x : Row) (r : Bool) → i ≡ get_or b p 0 → r ≡ holds_by (get_or b (p + 1) 0) (get_or b (p + 2) 0) (get_or x i 0) → r ≡ holds (literal_at b p) x
 holds_at b p i x r e f = f ∙ rw e (holds_by_literal (get_or b (p + 1) 0) (get_or b p 0) (get_or b (p + 2) 0) x)
 
--- ---- the loop: none of the i literals before p holds
-pub record HeldAt (b : List ℕ) (start c : ℕ) (x : Row) (p i : ℕ) : Type 0 where
-  pub place : At b start c p i
-  pub left : Left (length x) b c p i
-  pub whole : first_held (literals_at b start c) x ≡ i + first_held (literals_at b p (c - i)) x
+-- ---- the loop: of the literals of b, k are passed, none of which holds, and `rest` is left
+pub record HeldFrom (b rest : List ℕ) (x : Row) (k : ℕ) : Type 0 where
+  pub known : Known (length x) (literals_in rest)
+  pub whole : first_held (literals_in b) x ≡ k + first_held (literals_in rest) x
+  pub count : length (literals_in b) ≡ k + length (literals_in rest)
 
-module _ {b : List ℕ} {start c : ℕ} {x : Row} where
-  pub held_start : Askable b start c (length x) → HeldAt b start c x start 0
-  held_start a = record { place = at_start a.inside; left = left_start a.known; whole = rw sub-zero (omega arith) }
+pub held_start : (b : List ℕ) (x : Row) → Known (length x) (literals_in b) → HeldFrom b b x 0
+held_start b x known = record { known = known; whole = omega arith; count = omega arith }
 
-  module _ {p i : ℕ} {t : Bool} (m : HeldAt b start c x p i) (h : i < c) (e : t ≡ holds (literal_at b p) x) where
-    step : first_held (literals_at b start c) x ≡ i + cond t 0 (suc (first_held (literals_at b (p + 3) (c - (i + 1))) x))
+module _ {b rest : List ℕ} {x : Row} {k : ℕ} (m : HeldFrom b rest x k) (y t : List ℕ) (e : rest ≡ y ++ t) (three : length y ≡ 3) where
+  first : literals_in rest ≡ literal_at y 0 ∷ literals_in t
+  first = rw e (literals_first y t three)
+
+  both : Known (length x) (literal_at y 0 ∷ literals_in t)
+  both = rw first at m.known
+
+  pub held_known : get_or y 0 0 < length x
+  held_known = rw literal_setting_is at both.0
+
+  counted : length (literals_in b) ≡ k + suc (length (literals_in t))
+  counted = m.count ∙ rw first
+
+  module _ {r : Bool} (d : r ≡ holds (literal_at y 0) x) where
+    step : first_held (literals_in b) x ≡ k + cond r 0 (suc (first_held (literals_in t) x))
     unfolding first_held
-    step = m.whole ∙ rw (literals_on b c p i h, ← e)
+    step = m.whole ∙ rw (first, ← d)
 
-    pub held_found : t ≡ true → i ≡ first_held (literals_at b start c) x
-    held_found y = sym (step ∙ rw (y, add-zero))
+    pub held_found : r ≡ true → Some k ≡ found (length (literals_in b)) (first_held (literals_in b) x)
+    held_found h =
+        let same : first_held (literals_in b) x ≡ k = step ∙ rw (h, add-zero) in
+        rw (same, lt-ltb k (length (literals_in b)) (omega (arith, counted)))
 
-    pub held_on : t ≡ false → HeldAt b start c x (p + 3) (i + 1)
-    held_on y = record {
-      place = at_on m.place h;
-      left = left_on m.left h;
-      whole = omega (arith, rw y at step);
-    }
+    pub held_on : r ≡ false → HeldFrom b t x (k + 1)
+    held_on h = record { known = both.1; whole = omega (arith, rw h at step); count = omega (arith, counted) }
 
-  pub held_none : {p i : ℕ} → HeldAt b start c x p i → c ≤ i → i ≡ first_held (literals_at b start c) x
-  unfolding first_held
-  held_none {p} {i} m h = sym (m.whole ∙ rw (literals_none b c p i h, add-zero))
+pub held_none : (b rest : List ℕ) (x : Row) (k : ℕ) → HeldFrom b rest x k → length rest < 3 → None ≡ found (length (literals_in b)) (first_held (literals_in b) x)
+unfolding first_held
+held_none b rest x k m short =
+    let none : literals_in rest ≡ [] = literals_over rest short in
+    let w : first_held (literals_in rest) x ≡ 0 = rw none in
+    let c : length (literals_in rest) ≡ 0 = rw none in
+    let same : first_held (literals_in b) x ≡ length (literals_in b) = omega (arith, m.whole, m.count) in
+    rw (same, le-ltb (length (literals_in b)) (length (literals_in b)) (omega arith))
 
 -- ---- the rule
 
-pub met_first : (b : List ℕ) (start c : ℕ) (x : Row) (k : ℕ) → k ≡ first_held (literals_at b start c) x → ltb k c ≡ met (literals_at b start c) x
-met_first b start c x k e = sym (met_held (literals_at b start c) x ∙ rw (← e, literals_length))
+-- one holds just where one is found
+pub met_first : (r : Rule) (x : Row) (o : Option ℕ) → o ≡ found (length r) (first_held r x) → is_some o ≡ met r x
+met_first r x o e = rw (e, met_held r x) (go (ltb (first_held r x) (length r)))
+  where
+    go : (t : Bool) → is_some (cond t (Some (first_held r x)) None) ≡ t
+    go true = refl
+    go false = refl

@@ -1,8 +1,7 @@
--- Limits: a lemma for each way out of the test of n and l.
+-- Limits: the test of n and l, a lemma for each way out.
 use Prim.Native.Nat.{ℕ, ◌≤◌, ◌<◌}
 use mathlib.Core.Path.{◌≡◌}
-use mathlib.Core.Bool.{false, and-false}
-use lib.Dec.{leb}
+use mathlib.Core.Bool.{true, false, and-false}
 use borrow.Author.Tests.{le-leb, lt-leb}
 use Rattle.meaning.specs.Rows.{limits}
 
@@ -19,6 +18,10 @@ module _ (n l : ℕ) where
   unfolding limits
   limits_narrow h = rw (lt-leb 1 l h, and-false)
 
-  pub limits_wide : 1 ≤ n → n ≤ 64 → 1 ≤ l → leb l 16 ≡ limits n l
+  pub limits_wide : 16 < l → false ≡ limits n l
   unfolding limits
-  limits_wide h i j = rw (le-leb 1 n h, le-leb n 64 i, le-leb 1 l j)
+  limits_wide h = rw (lt-leb l 16 h, and-false, and-false)
+
+  pub limits_within : 1 ≤ n → n ≤ 64 → 1 ≤ l → l ≤ 16 → true ≡ limits n l
+  unfolding limits
+  limits_within h i j k = rw (le-leb 1 n h, le-leb n 64 i, le-leb 1 l j, le-leb l 16 k)

@@ -1,44 +1,64 @@
--- Scarce: which literals in bytes are scarce, and how many. A lemma for each way out.
-use Prim.Native.Nat.{ℕ, zero, suc, ◌+◌, ◌≤◌}
-use mathlib.Core.Path.{◌≡◌, refl, ap, ◌∙◌}
+-- Scarce: which literals in bytes are scarce, and the loop that counts them.
+use Prim.Native.Nat.{ℕ, zero, suc, ◌+◌, ◌≤◌, ◌<◌}
+use native.Mathlib.Omega.{arith}
+use mathlib.Core.Path.{◌≡◌, refl, ◌∙◌}
 use mathlib.Core.Bool.{Bool, true, false, cond, not}
-use mathlib.Core.List.{List, [], ◌∷◌}
+use mathlib.Core.List.{List, ◌++◌}
+use mir.Val.{bool_byte}
 use lib.Dec.{eqb, eqb-suc-zero}
-use lib.ListN.{get_or}
-use Rattle.meaning.specs.Rules.{Rule, Side, low, high, scarce, scarces}
-use Rattle.meaning.specs.Bytes.{literal, literal_at, literals_at}
-use Rattle.meaning.specs.Inner.{side_of}
-use Rattle.literals.specs.Inner.{one, number}
-use Rattle.literals.proofs.laws.Number.{NumberAt, number_end}
+use lib.ListN.{length, get_or}
+use Rattle.std.proofs.lemmas.List.{length-append}
+use Rattle.meaning.specs.Rules.{Side, low, high, scarce, scarces}
+use Rattle.meaning.specs.Bytes.{literal, literal_at}
+use Rattle.literals.specs.Inner.{literals_in}
+use Rattle.literals.proofs.laws.Chunks.{literals_first, literals_over}
 
 -- ---- one literal
 
-pub scarce_high : (b : List ℕ) (p : ℕ) (t : Bool) → t ≡ true → eqb (get_or b (p + 1) 0) 0 ≡ scarce (side_of t) (literal_at b p)
-unfolding scarce
-scarce_high b p t e = rw e (go (get_or b (p + 1) 0))
-  where
-    go : (g : ℕ) → eqb g 0 ≡ scarce high (literal g (get_or b p 0) (get_or b (p + 2) 0))
-    go zero = refl
-    go (suc g) = rw eqb-suc-zero
+module _ (b : List ℕ) (p : ℕ) where
+  pub scarce_high : eqb (get_or b (p + 1) 0) 0 ≡ scarce high (literal_at b p)
+  unfolding scarce
+  scarce_high = go (get_or b (p + 1) 0)
+    where
+      go : (g : ℕ) → eqb g 0 ≡ scarce high (literal g (get_or b p 0) (get_or b (p + 2) 0))
+      go zero = refl
+      go (suc g) = rw eqb-suc-zero
 
-pub scarce_low : (b : List ℕ) (p : ℕ) (t : Bool) → t ≡ false → not (eqb (get_or b (p + 1) 0) 0) ≡ scarce (side_of t) (literal_at b p)
-unfolding scarce
-scarce_low b p t e = rw e (go (get_or b (p + 1) 0))
-  where
-    go : (g : ℕ) → not (eqb g 0) ≡ scarce low (literal g (get_or b p 0) (get_or b (p + 2) 0))
-    go zero = refl
-    go (suc g) = rw eqb-suc-zero
+  pub scarce_low : not (eqb (get_or b (p + 1) 0) 0) ≡ scarce low (literal_at b p)
+  unfolding scarce
+  scarce_low = go (get_or b (p + 1) 0)
+    where
+      go : (g : ℕ) → not (eqb g 0) ≡ scarce low (literal g (get_or b p 0) (get_or b (p + 2) 0))
+      go zero = refl
+      go (suc g) = rw eqb-suc-zero
 
--- ---- how many
+-- ---- the loop: k of the literals of b that are passed are scarce, and `rest` is left
+pub record ScarceFrom (s : Side) (b rest : List ℕ) (k : ℕ) : Type 0 where
+  pub few : k + length rest ≤ length b
+  pub whole : scarces s (literals_in b) ≡ k + scarces s (literals_in rest)
 
-scarces_number : (s : Side) (r : Rule) → number (scarce s) r ≡ scarces s r
-unfolding number one scarces
-scarces_number s [] = refl
-scarces_number s (c ∷ r) = go (scarce s c) (scarces_number s r)
-  where
-    go : (t : Bool) → number (scarce s) r ≡ scarces s r → one t + number (scarce s) r ≡ cond t 1 0 + scarces s r
-    go true e = ap (λ (n : ℕ). 1 + n) e
-    go false e = ap (λ (n : ℕ). 0 + n) e
+byte_is : (r : Bool) → bool_byte r ≡ cond r 1 0
+byte_is true = refl
+byte_is false = refl
 
-pub scarces_end : (s : Side) {b : List ℕ} {start c k p i : ℕ} → NumberAt (scarce s) b start c k p i → c ≤ i → k ≡ scarces s (literals_at b start c)
-scarces_end s {b} {start} {c} m h = number_end m h ∙ scarces_number s (literals_at b start c)
+small : (r : Bool) → bool_byte r ≤ 1
+small true = omega arith
+small false = omega arith
+
+module _ (s : Side) (b : List ℕ) where
+  pub scarce_start : ScarceFrom s b b 0
+  scarce_start = record { few = omega arith; whole = omega arith }
+
+  module _ {rest : List ℕ} {k : ℕ} (m : ScarceFrom s b rest k) where
+    pub scarce_on : (y t : List ℕ) → rest ≡ y ++ t → length y ≡ 3 → (r : Bool) → r ≡ scarce s (literal_at y 0) → ScarceFrom s b t (k + bool_byte r)
+    unfolding scarces
+    scarce_on y t e three r d =
+        let long : length rest ≡ length y + length t = rw e (length-append y t) in
+        let w : scarces s (literals_in b) ≡ k + (cond r 1 0 + scarces s (literals_in t)) = m.whole ∙ rw (e, literals_first y t three, ← d) in
+        record { few = omega (arith, m.few, long, three, small r); whole = omega (arith, w, byte_is r) }
+
+    pub scarce_end : length rest < 3 → k ≡ scarces s (literals_in b)
+    unfolding scarces
+    scarce_end short =
+        let none : scarces s (literals_in rest) ≡ 0 = rw (literals_over rest short) in
+        omega (arith, m.whole)

@@ -7,30 +7,24 @@ use mathlib.Core.List.{List, ◌++◌}
 use mathlib.Core.Option.{Option, none, some}
 use lib.ListN.{length, drop}
 use borrow.Author.Tests.{lt-ltb, le-ltb, le-leb, lt-leb}
+use Rattle.std.specs.Prelude.{Result, Ok, Err}
 use Rattle.meaning.specs.Rows.{rows_of}
 use Rattle.meaning.specs.Rules.{Rule}
 use Rattle.meaning.specs.Closed.{open_rows}
 use Rattle.tables.specs.declared.Flaw.{Flaw}
 use Rattle.tables.specs.declared.Flaw.TheVariants.{Limits, Length, Rows, Value, Order}
-use Rattle.tables.specs.declared.Checked.{Checked}
-use Rattle.tables.specs.declared.Checked.TheVariants.{Sound, Flawed}
 use Rattle.tables.specs.Check.{checked_of}
 use Rattle.meaning.proofs.Tests.{lt_or_le}
 use Rattle.meaning.proofs.Flat.{rows_whole}
 use Rattle.tables.proofs.laws.Promised.{checked_sound}
 use Rattle.makers.specs.declared.Made.{Made}
-use Rattle.makers.specs.declared.Made.TheVariants.{Book, Family, Room, Flawed as Refused}
+use Rattle.makers.specs.declared.Unmade.{Unmade}
+use Rattle.makers.specs.declared.Unmade.TheVariants.{Flawed, Family, Open, Room}
 use Rattle.makers.specs.Made.{number_of, rules_made, bytes_made, open_as, unless_flawed, unless_open, fitting, book_alike, closed_of, made_of, Tested}
 
 -- ---- the numbers
 
-pub open_number : (numbers : List ℕ) → number_of (open_as numbers) ≡ 7
-open_number numbers = elim (lt_or_le (length numbers) 3) [
-  | inl h ↦ rw (lt-ltb (length numbers) 3 h)
-  | inr h ↦ rw (le-ltb (length numbers) 3 h)
-]
-
-pub flaw_number : (f : Flaw) → (0 < number_of (Refused f)) × (number_of (Refused f) ≤ 5)
+pub flaw_number : (f : Flaw) → (0 < number_of (Err (Flawed f))) × (number_of (Err (Flawed f)) ≤ 5)
 flaw_number Limits = omega arith
 flaw_number Length = omega arith
 flaw_number (Rows k) = omega arith
@@ -44,13 +38,13 @@ module _ (n l family : ℕ) (table : List ℕ) where
   abbrev bytes : List ℕ
   bytes = bytes_made n l family table
 
-  pub data Makes (room : List ℕ) : Made × List ℕ → Type 0 where
-    flawed : (f : Flaw) → checked_of n l table ≡ Flawed f → Makes room (Refused f, room)
-    unknown : Tested n l table → 3 < family → Makes room (Family, room)
-    unclosed : Tested n l table → family ≤ 3 → (numbers : List ℕ) → open_rows family (rows_of l table) ≡ some numbers → Makes room (open_as numbers, room)
-    narrow : Tested n l table → family ≤ 3 → open_rows family (rows_of l table) ≡ none → length room < length bytes → Makes room (Room (length bytes), room)
+  pub data Makes (room : List ℕ) : Result Made Unmade × List ℕ → Type 0 where
+    flawed : (f : Flaw) → checked_of n l table ≡ Err f → Makes room (Err (Flawed f), room)
+    unknown : Tested n l table → 3 < family → Makes room (Err Family, room)
+    unclosed : Tested n l table → family ≤ 3 → (numbers : List ℕ) → open_rows family (rows_of l table) ≡ some numbers → Makes room (Err (Open (open_as numbers)), room)
+    narrow : Tested n l table → family ≤ 3 → open_rows family (rows_of l table) ≡ none → length room < length bytes → Makes room (Err (Room (length bytes)), room)
     given : Tested n l table → family ≤ 3 → open_rows family (rows_of l table) ≡ none → length bytes ≤ length room
-        → Makes room (Book (length bytes) (length rules), bytes ++ drop (length bytes) room)
+        → Makes room (Ok (record { length = length bytes; rules = length rules }), bytes ++ drop (length bytes) room)
 
   module _ (room : List ℕ) where
     book_cases : Tested n l table → family ≤ 3 → open_rows family (rows_of l table) ≡ none → Makes room (book_alike n l family table room)
@@ -75,15 +69,15 @@ module _ (n l family : ℕ) (table : List ℕ) where
     unfolding made_of
     made_cases = go (checked_of n l table) refl
       where
-        go : (a : Checked) → checked_of n l table ≡ a → Makes room (unless_flawed a room (closed_of n l family table room))
-        go (Flawed f) e = flawed f e
-        go (Sound k) e =
+        go : (a : Result ℕ Flaw) → checked_of n l table ≡ a → Makes room (unless_flawed a room (closed_of n l family table room))
+        go (Err f) e = flawed f e
+        go (Ok k) e =
             let p = (checked_sound n l table k).0 e in
             closed_cases (rw (rows_whole l table k p.limited.wide p.whole) p)
 
   -- ---- refusals
 
-  stays : (room : List ℕ) (o : Made × List ℕ) → Makes room o → number_of o.0 ≢ 0 → o.1 ≡ room
+  stays : (room : List ℕ) (o : Result Made Unmade × List ℕ) → Makes room o → number_of o.0 ≢ 0 → o.1 ≡ room
   stays room o (flawed f e) n = refl
   stays room o (unknown t h) n = refl
   stays room o (unclosed t h numbers e) n = refl

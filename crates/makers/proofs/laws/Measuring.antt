@@ -12,20 +12,23 @@ use Rattle.meaning.specs.Bytes.{encode_rule, encode_rules}
 use Rattle.meaning.proofs.Encoded.{encode_rule_length}
 use Rattle.meaning.proofs.Made.{rules_parts}
 use Rattle.meaning.proofs.Bounds.{rules_length}
-use Rattle.makers.specs.declared.sending.Tally.{Tally}
-use Rattle.makers.specs.Inner.{State, sends_for, Sent, Measured, Needed}
+use Rattle.makers.specs.declared.Made.{Made}
+use Rattle.makers.specs.declared.rows.Source.{Source}
+use Rattle.makers.specs.declared.sending.Draft.{Draft}
+use Rattle.makers.specs.Inner.{source_family, source_rows, State, state_of, sends_for, SentAll, Measured, Needed}
 use Rattle.makers.proofs.laws.Sending.{sends_length, sends_rules}
 
-pub measured_sent : (ns : Sizes) (family : ℕ) (rows : List Row) (t : Tally) (old new : List ℕ)
-    → Sent 16896 family rows (general ns rows) (record { length = 7; rules = 0 }) old t new → Measured ns family rows (record { length = t.length + 2; rules = t.rules })
+pub measured_sent : (s : Source) (d d' : Draft) → d.made ≡ record { length = 7; rules = 0 } → SentAll s d d'
+    → Measured s.sizes.now (source_family s) (source_rows s) (record { length = d'.made.length + 2; rules = d'.made.rules })
 unfolding sends_for rules_for
-measured_sent ns family rows t old new s =
-    let rs = map (reduce_for family rows) (general ns rows) in
-    let from : State = (record { length = 7; rules = 0 }, old) in
+measured_sent s d d' e sent =
+    let rs = map (reduce_for (source_family s) (source_rows s)) (general s.sizes.now (source_rows s)) in
+    let l : d.made.length ≡ 7 = ap (λ (x : Made). x.length) e in
+    let r : d.made.rules ≡ 0 = ap (λ (x : Made). x.rules) e in
     record {
-      length_is = omega (arith, ap (λ (x : State). x.0.length) s.state, sends_length rs from);
-      rules_is = omega (arith, ap (λ (x : State). x.0.rules) s.state, sends_rules rs from);
-      few = s.more;
+      length_is = omega (arith, ap (λ (x : State). x.0.length) sent.state, sends_length rs (state_of d));
+      rules_is = omega (arith, ap (λ (x : State). x.0.rules) sent.state, sends_rules rs (state_of d));
+      few = omega (arith, sent.more);
     }
 
 part_length : {r s : Rule} → Part r s → length r ≤ length s
@@ -55,7 +58,7 @@ general_is ns rows = go (general ns rows)
     go [] = refl
     go (r ∷ rs) = ap (λ (l : List Rule). r ∷ l) (go rs)
 
-module _ (ns : Sizes) (family : ℕ) (rows : List Row) (space : ℕ) (t : Tally) where
+module _ (ns : Sizes) (family : ℕ) (rows : List Row) (space : ℕ) (t : Made) where
   pub needed_bound : Measured ns 0 rows t → t.length ≤ space → Needed ns family rows space t
   needed_bound m h =
       let shorter = parts_length (rules_parts family ns rows) in

@@ -1,50 +1,65 @@
 -- Parts: a row as a part of a flat table, and where two rows part.
-use Prim.Native.Nat.{ℕ, zero, suc, ◌+◌, ◌*◌, ◌-◌, ◌/◌, ◌≤◌, ◌<◌}
-use native.Mathlib.Numerals.{add-one}
+use Prim.Native.Nat.{ℕ, zero, suc, ◌+◌, ◌*◌, ◌-◌, ◌≤◌, ◌<◌}
 use native.Mathlib.Omega.{arith}
 use mathlib.Core.Path.{◌≡◌, refl, sym, ap, ◌∙◌}
-use mathlib.Core.Logic.{◌≢◌}
+use mathlib.Core.Logic.{◌≢◌, inl, inr}
 use mathlib.Core.Bool.{Bool, true, false, cond}
-use mathlib.Core.List.{List, [], ◌∷◌}
-use lib.Dec.{eqb}
-use lib.ListN.{length, take, drop, drop_of_length-le}
-use lib.Seq.{drop-cons}
-use borrow.Author.Tests.{lt-ltb, le-ltb, eq-eqb, ne_eqb}
-use Rattle.meaning.specs.Rows.{Row, at, row, rows_of}
+use mathlib.Core.List.{[], ◌∷◌}
+use lib.Dec.{eqb, ltb}
+use lib.ListN.{length, take, drop}
+use Rattle.std.proofs.Common.{not, Option, Some, None, unwrap_or}
+use Rattle.std.specs.List.{position_or_len, zip}
+use Rattle.std.proofs.lemmas.Slice.Zip.{length-zip}
+use Rattle.meaning.proofs.Tests.{lt_or_le}
+use borrow.Author.Tests.{lt-ltb, le-ltb}
+use Rattle.meaning.specs.Rows.{Row, row}
 use Rattle.meaning.specs.General.{split, fork}
 use Rattle.meaning.proofs.Flat.{rows_count, row_bytes, row_length}
+use Rattle.meaning.specs.Rules.{Rule}
+use Rattle.reducing.specs.Inner.{Ready}
+use Rattle.literals.specs.Inner.{Known}
+use Rattle.makers.specs.declared.rows.Source.{Source}
+use Rattle.makers.specs.Inner.{source_rows}
 
 -- ---- row k
 
-module _ (table : List ℕ) (l k : ℕ) (known : k < length table / l) where
-  pub row_part : take (k * l + l - k * l) (drop (k * l) table) ≡ row (rows_of l table) k
-  row_part = let e : k * l + l - k * l ≡ l = omega arith in rw e (sym (row_bytes l table k known))
+pub rows_counted : (s : Source) → length (source_rows s) ≡ s.rows
+rows_counted s = rows_count (length s.sizes.now) s.table.now ∙ sym s.given.count
 
--- ---- the split, setting by setting
+module _ (s : Source) (k : ℕ) (known : k < s.rows) where
+  pub row_part : take (k * length s.sizes.now + length s.sizes.now - k * length s.sizes.now) (drop (k * length s.sizes.now) s.table.now) ≡ row (source_rows s) k
+  row_part =
+      let l = length s.sizes.now in
+      let e : k * l + l - k * l ≡ l = omega arith in
+      rw e (sym (row_bytes l s.table.now k (omega (arith, s.given.count))))
 
-pub record SplitAt (a b : Row) (i : ℕ) : Type 0 where
-  pub small : i ≤ length a
-  pub rest : split a b ≡ i + split (drop i a) (drop i b)
+  pub row_width : (m : Row) → m ≡ row (source_rows s) k → length m ≡ length s.sizes.now
+  row_width m e = ap length e ∙ row_length (length s.sizes.now) s.table.now k (omega (arith, s.given.count))
 
-module _ (a b : Row) where
-  pub split_start : SplitAt a b 0
-  split_start = record { small = omega arith; rest = omega arith }
+-- a rule over the settings can be reduced
+pub rule_ready : (s : Source) (r : Rule) → Known (length s.sizes.now) r → Ready r (length s.sizes.now) s.table.now
+rule_ready s r known = record {
+  known = known;
+  l_low = s.given.some;
+  l_high = s.given.few;
+  rows = omega (arith, rows_counted s, s.given.most);
+}
 
-  module _ (i : ℕ) (s : SplitAt a b i) (same : length a ≡ length b) where
-    pub split_here : i < length a → at a i ≢ at b i → i ≡ split a b
-    unfolding split
-    split_here h n = sym (s.rest ∙ rw (drop-cons a i 0 h, drop-cons b i 0 (omega arith), ne_eqb (at a i) (at b i) n) (omega arith))
+-- ---- the split
 
-    pub split_on : i < length a → at a i ≡ at b i → SplitAt a b (i + 1)
-    unfolding split
-    split_on h e = record {
-      small = omega arith;
-      rest = s.rest ∙ rw (add-one, drop-cons a i 0 h, drop-cons b i 0 (omega arith), eq-eqb (at a i) (at b i) e) (omega arith);
-    }
+abbrev apart : ℕ × ℕ → Bool
+apart p = not (eqb p.0 p.1)
 
-    pub split_end : length a ≤ i → i ≡ split a b
-    unfolding split
-    split_end h = sym (s.rest ∙ rw (drop_of_length-le a h) (omega arith))
+pub split_place : (a b : Row) → length a ≡ length b → position_or_len apart (zip a b) ≡ split a b
+unfolding split
+split_place [] b e = refl
+split_place (u ∷ a) [] e = refl
+split_place (u ∷ a) (v ∷ b) e = go (eqb u v) (split_place a b (omega arith))
+  where
+    go : (t : Bool) → position_or_len apart (zip a b) ≡ split a b
+        → cond (not (not t)) (1 + position_or_len apart (zip a b)) 0 ≡ cond t (suc (split a b)) 0
+    go true q = omega arith
+    go false q = refl
 
 pub split_most : (a b : Row) → split a b ≤ length a
 unfolding split
@@ -56,35 +71,48 @@ split_most (u ∷ a) (v ∷ b) = go (eqb u v) (split_most a b)
     go true h = omega arith
     go false h = omega arith
 
+-- the place of the first pair that differs, or the length where there is none
+pub first_apart : (a b : Row) (o : Option ℕ) (r : ℕ) → length a ≡ length b
+    → o ≡ cond (ltb (position_or_len apart (zip a b)) (length (zip a b))) (Some (position_or_len apart (zip a b))) None
+    → r ≡ unwrap_or o (length a) → r ≡ split a b
+first_apart a b o r e q u =
+    let n : length (zip a b) ≡ length a = omega (arith, length-zip a b) in
+    let s = split_place a b e in
+    let most = split_most a b in
+    elim (lt_or_le (split a b) (length a)) [
+      | inl h ↦ u ∙ rw (q, s, n, lt-ltb (split a b) (length a) h)
+      | inr h ↦ u ∙ rw (q, s, n, le-ltb (split a b) (length a) h) (omega arith)
+    ]
+
 -- ---- the fork
 
-module _ (table : List ℕ) (l rows k : ℕ) (count : rows ≡ length table / l) where
-  pub fork_first : k ≡ 0 → 0 ≡ fork (rows_of l table) k
+module _ (s : Source) (k : ℕ) where
+  pub fork_first : k ≡ 0 → 0 ≡ fork (source_rows s) k
   unfolding fork
   fork_first e = rw e
 
-  pub fork_last : k ≢ 0 → rows ≤ k → 0 ≡ fork (rows_of l table) k
+  pub fork_last : k ≢ 0 → s.rows ≤ k → 0 ≡ fork (source_rows s) k
   unfolding fork
   fork_last n h = go k n h
     where
-      go : (k : ℕ) → k ≢ 0 → rows ≤ k → 0 ≡ fork (rows_of l table) k
+      go : (k : ℕ) → k ≢ 0 → s.rows ≤ k → 0 ≡ fork (source_rows s) k
       go zero n h = absurd (n refl)
-      go (suc j) n h = rw (le-ltb (suc j) (length (rows_of l table)) (omega (arith, rows_count l table)))
+      go (suc j) n h = rw (le-ltb (suc j) (length (source_rows s)) (omega (arith, rows_counted s)))
 
-  module _ (a b : Row) (n : k ≢ 0) (h : k < rows) (ea : a ≡ row (rows_of l table) (k - 1)) (eb : b ≡ row (rows_of l table) k) where
+  module _ (a b : Row) (n : k ≢ 0) (h : k < s.rows) (ea : a ≡ row (source_rows s) (k - 1)) (eb : b ≡ row (source_rows s) k) where
     pub fork_same : length a ≡ length b
-    fork_same = rw (ea, eb, row_length l table (k - 1) (omega arith), row_length l table k (omega arith))
+    fork_same = row_width s (k - 1) (omega arith) a ea ∙ sym (row_width s k h b eb)
 
-    pub fork_most : (place : ℕ) → l ≤ 16 → place ≡ split a b → place ≤ 16
-    fork_most place few e = omega (arith, split_most a b, ap length ea, row_length l table (k - 1) (omega arith))
+    pub fork_most : (place : ℕ) → place ≡ split a b → place ≤ 16
+    fork_most place e = omega (arith, split_most a b, row_width s (k - 1) (omega arith) a ea, s.given.few)
 
-    pub fork_between : (place : ℕ) → place ≡ split a b → place + 1 ≡ fork (rows_of l table) k
+    pub fork_between : (place : ℕ) → place ≡ split a b → place + 1 ≡ fork (source_rows s) k
     unfolding fork
     fork_between place e = go k n h (e ∙ rw (ea, eb))
       where
-        go : (k : ℕ) → k ≢ 0 → k < rows → place ≡ split (row (rows_of l table) (k - 1)) (row (rows_of l table) k) → place + 1 ≡ fork (rows_of l table) k
+        go : (k : ℕ) → k ≢ 0 → k < s.rows → place ≡ split (row (source_rows s) (k - 1)) (row (source_rows s) k) → place + 1 ≡ fork (source_rows s) k
         go zero n h e = absurd (n refl)
         go (suc j) n h e =
             let z : suc j - 1 ≡ j = omega arith in
             let e' = rw z at e in
-            rw (lt-ltb (suc j) (length (rows_of l table)) (omega (arith, rows_count l table)), e')
+            rw (lt-ltb (suc j) (length (source_rows s)) (omega (arith, rows_counted s)), e')

@@ -1,25 +1,23 @@
 -- Sending: rules written one after another, each where it fits, with the length and the number of rules so far.
-use Prim.Native.Nat.{ℕ, ◌+◌, ◌*◌, ◌≤◌, ◌<◌}
+use Prim.Native.Nat.{ℕ, ◌+◌, ◌≤◌, ◌<◌}
 use native.Mathlib.Omega.{arith}
 use mathlib.Core.Path.{◌≡◌, refl, sym, ap, ◌∙◌}
 use mathlib.Core.Bool.{Bool, true, false}
 use mathlib.Core.List.{List, [], ◌∷◌, ◌++◌, map, map-append}
-use lib.ListN.{length, take, length-append}
-use lib.Seq.{length-take-le}
+use lib.ListN.{length, length-append}
 use Rattle.meaning.specs.Lists.{opt}
 use Rattle.meaning.specs.Rows.{Row}
 use Rattle.meaning.specs.Rules.{Rule}
 use Rattle.meaning.specs.Families.{reduce_for}
-use Rattle.meaning.specs.Bytes.{encode_rule, encode_rules}
-use Rattle.reducing.specs.declared.Hand.{Hand}
-use Rattle.reducing.specs.Inner.{rule_in, Sane, Holding}
+use Rattle.meaning.specs.Bytes.{encode_literals, encode_rule, encode_rules}
 use Rattle.books.specs.Inner.{put_at, put_in, Puts, rule_record}
-use Rattle.reducing.proofs.laws.Hand.{rule_length, sane_bytes}
-use Rattle.meaning.proofs.Encoded.{encode_rule_length}
+use Rattle.meaning.proofs.Encoded.{encode_rule_length, encode_literals_length}
 use Rattle.books.proofs.laws.Records.{rule_record_is}
 use Rattle.books.proofs.laws.Put.{put_at_length, put_at_nothing, put_at_put_at, put_in_fits}
-use Rattle.makers.specs.declared.sending.Tally.{Tally}
-use Rattle.makers.specs.Inner.{State, send, sends, sends_for, Countable, Sent}
+use Rattle.makers.specs.declared.Made.{Made}
+use Rattle.makers.specs.declared.rows.Source.{Source}
+use Rattle.makers.specs.declared.sending.Draft.{Draft}
+use Rattle.makers.specs.Inner.{source_family, State, state_of, source_rows, send, sends, sends_for, IsSent, Countable, Sent}
 
 -- ---- laws
 
@@ -59,49 +57,56 @@ sends_for_append family rows xs ys s = rw map-append (sends_append (map (reduce_
 
 -- ---- the way out of the code
 
-pub send_put : (h : Hand) (t : Tally) (old new : List ℕ) (next : ℕ) → Sane h → Puts old new t.length (rule_record (take (3 * h.count) h.bytes)) next
-    → ◌≡◌ {A = State} (record { length = next; rules = t.rules + 1 }, new) (send (rule_in h) (t, old))
+pub send_put : (r : Rule) (bytes : List ℕ) (t : Made) (old new : List ℕ) (next : ℕ) → bytes ≡ encode_literals r → Puts old new t.length (rule_record bytes) next
+    → ◌≡◌ {A = State} (record { length = next; rules = t.rules + 1 }, new) (send r (t, old))
 unfolding send
-send_put h t old new next s p =
-    let e : rule_record (take (3 * h.count) h.bytes) ≡ encode_rule (rule_in h) = rw (sane_bytes h s) (rule_record_is (rule_in h)) in
+send_put r bytes t old new next b p =
+    let e : rule_record bytes ≡ encode_rule r = rw b (rule_record_is r) in
     let q = rw e at p in
     rw (q.next_is, q.room)
 
-pub send_bytes : (h : Hand) → Sane h → 3 * h.count ≤ length h.bytes
-send_bytes h s = omega (arith, s.few, s.whole)
-
-pub send_length : (h : Hand) → Sane h → 3 * h.count ≡ length (take (3 * h.count) h.bytes)
-send_length h s = sym (length-take-le (3 * h.count) h.bytes (send_bytes h s))
-
-pub send_few : (h : Hand) → Sane h → length (take (3 * h.count) h.bytes) < 768
-send_few h s = rw (length-take-le (3 * h.count) h.bytes (send_bytes h s)) (omega (arith, s.few))
+pub send_few : (r : Rule) (bytes : List ℕ) → bytes ≡ encode_literals r → length r ≤ 32 → length bytes < 768
+send_few r bytes b few = rw b (omega (arith, encode_literals_length r))
 
 -- ---- the state after some slots, of which each sends at most one rule of at most 32 literals
 
--- the tally after a rule of a sane hand
-pub send_more : (h : Hand) (t t' : Tally) (old new : List ℕ) → Sane h → ◌≡◌ {A = State} (t', new) (send (rule_in h) (t, old))
-    → (t'.length ≤ t.length + 99) × (t'.rules ≡ t.rules + 1)
+-- the draft after a rule
+pub send_more : (r : Rule) (d d' : Draft) → IsSent r d d' → (d'.made.length ≤ d.made.length + 99) × (d'.made.rules ≡ d.made.rules + 1)
 unfolding send
-send_more h t t' old new s e =
-    let length_is : t'.length ≡ t.length + length (encode_rule (rule_in h)) = ap (λ (x : State). x.0.length) e in
-    (omega (arith, encode_rule_length (rule_in h), rule_length h, s.few), ap (λ (x : State). x.0.rules) e)
+send_more r d d' e =
+    let length_is : d'.made.length ≡ d.made.length + length (encode_rule r) = ap (λ (x : State). x.0.length) e.state in
+    (omega (arith, encode_rule_length r, e.few), ap (λ (x : State). x.0.rules) e.state)
 
-module _ (family : ℕ) (rows : List Row) (ruled : Bool) (h : Hand) (t : Tally) (old : List ℕ) where
-  pub slot_some : (r : Hand) (t' : Tally) (new : List ℕ) → ruled ≡ true → Holding (reduce_for family rows (rule_in h)) r
-      → ◌≡◌ {A = State} (t', new) (send (rule_in r) (t, old)) → Sent 1 family rows (opt ruled (rule_in h)) t old t' new
-  unfolding sends_for sends
-  slot_some r t' new e hd q =
-      let grown = send_more r t t' old new hd.sane q in
-      record { state = q ∙ rw (e, hd.rule); longer = omega arith; more = omega arith }
+-- no rule
+pub sent_none : (k : ℕ) (s : Source) (rs : List Rule) (d : Draft) → rs ≡ [] → Sent k s rs d d
+unfolding sends_for sends
+sent_none k s rs d e = record { same_room = refl; state = rw e; longer = omega arith; more = omega arith }
 
-  pub slot_none : ruled ≡ false → Sent 1 family rows (opt ruled (rule_in h)) t old t old
-  unfolding sends_for sends
-  slot_none e = record { state = rw e; longer = omega arith; more = omega arith }
+-- one lot after the other
+pub sent_both : (j k : ℕ) (s : Source) (xs ys : List Rule) (d d₁ d₂ : Draft) → Sent j s xs d d₁ → Sent k s ys d₁ d₂ → Sent (j + k) s (xs ++ ys) d d₂
+sent_both j k s xs ys d d₁ d₂ a b = record {
+  same_room = b.same_room ∙ a.same_room;
+  state = b.state ∙ rw a.state (sym (sends_for_append (source_family s) (source_rows s) xs ys (state_of d)));
+  longer = omega (arith, a.longer, b.longer);
+  more = omega (arith, a.more, b.more);
+}
+
+pub sent_one : (s : Source) (r reduced : Rule) (d d' : Draft) → reduced ≡ reduce_for (source_family s) (source_rows s) r → IsSent reduced d d' → Sent 1 s (r ∷ []) d d'
+unfolding sends_for sends
+sent_one s r reduced d d' e q =
+    let grown = send_more reduced d d' q in
+    record { same_room = q.same_room; state = q.state ∙ rw e; longer = omega arith; more = omega arith }
+
+-- the rule of a slot, if it has one
+pub slot_some : (s : Source) (b : Bool) (r : Rule) (d d' : Draft) → b ≡ true → Sent 1 s (r ∷ []) d d' → Sent 1 s (opt b r) d d'
+slot_some s b r d d' e sent = rw e sent
+
+pub slot_none : (s : Source) (b : Bool) (r : Rule) (d : Draft) → b ≡ false → Sent 1 s (opt b r) d d
+slot_none s b r d e = sent_none 1 s (opt b r) d (rw e)
 
 -- what can be counted after k slots
-pub sent_countable : (k j n family : ℕ) (rows : List Row) (rs : List Rule) (t t' : Tally) (old new : List ℕ) → Sent k family rows rs t old t' new
-    → Countable t n → k + j ≤ n → Countable t' j
-sent_countable k j n family rows rs t t' old new s c h = record {
-  bytes = omega (arith, s.longer, c.bytes);
-  number = omega (arith, s.more, c.number);
+pub sent_countable : (k j n : ℕ) (s : Source) (rs : List Rule) (d d' : Draft) → Sent k s rs d d' → Countable d.made n → k + j ≤ n → Countable d'.made j
+sent_countable k j n s rs d d' sent c h = record {
+  bytes = omega (arith, sent.longer, c.bytes);
+  number = omega (arith, sent.more, c.number);
 }

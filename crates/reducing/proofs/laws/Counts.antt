@@ -10,8 +10,7 @@ use borrow.Author.Tests.{eq-eqb, ne_eqb}
 use Rattle.meaning.specs.Rows.{Row}
 use Rattle.meaning.specs.Rules.{Literal, Rule, holds, met}
 use Rattle.meaning.specs.Families.{met_by_all, trim}
-use Rattle.reducing.specs.Inner.{change, counting, lowering, spare}
-use Rattle.literals.specs.Inner.{one, number}
+use Rattle.reducing.specs.Inner.{one, number, change, counting, lowering, spare}
 
 -- the numbers of the rows are those of the rule
 abbrev pub Counts : Rule → List Row → List ℕ → Type 0

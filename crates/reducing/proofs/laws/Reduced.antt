@@ -1,33 +1,29 @@
--- The reduction of a rule in hand, by the number of the family: a lemma for each way out.
-use Prim.Native.Nat.{ℕ, zero, suc}
-use mathlib.Core.Path.{◌≡◌, refl}
-use mathlib.Core.List.{List, []}
+-- Reduced: the reduction to Horn and to dual Horn, by the number of scarce literals.
+use Prim.Native.Nat.{ℕ, ◌≤◌, ◌<◌}
+use mathlib.Core.Path.{◌≡◌}
+use mathlib.Core.Bool.{Bool, true, false, cond}
+use mathlib.Core.List.{List, [], ◌∷◌}
+use mathlib.Core.Option.{none}
+use borrow.Author.Tests.{lt-ltb, le-ltb}
 use Rattle.meaning.specs.Rows.{Row}
-use Rattle.meaning.specs.Rules.{low, high}
-use Rattle.meaning.specs.Families.{reduce, trim, reduce_for}
-use Rattle.reducing.specs.declared.Hand.{Hand}
-use Rattle.reducing.specs.Inner.{rule_in, Sane, Holding}
+use Rattle.meaning.specs.Rules.{Rule, Side, scarce, scarces, horn}
+use Rattle.meaning.specs.Families.{common, keep_for, extreme, reduce}
+use Rattle.literals.specs.Inner.{Known}
 
-module _ (family : ℕ) (rows : List Row) (h : Hand) where
-  pub reduced_general : family ≡ 0 → Sane h → Holding (reduce_for family rows (rule_in h)) h
-  unfolding reduce_for
-  reduced_general e s = record { sane = s; rule = rw e }
+pub known_common : (s : Side) (l : ℕ) (r : Rule) → Known l r → Known l (keep_for s r none)
+unfolding keep_for common
+known_common s l [] k = tt
+known_common s l (c ∷ r) k = go (scarce s c) (known_common s l r k.1)
+  where
+    go : (t : Bool) → Known l (common s r) → Known l (cond t (common s r) (c ∷ common s r))
+    go true e = e
+    go false e = (k.0, e)
 
-  module _ (r : Hand) where
-    pub reduced_horn : family ≡ 1 → Holding (reduce low rows (rule_in h)) r → Holding (reduce_for family rows (rule_in h)) r
-    unfolding reduce_for
-    reduced_horn e m = rw e m
+module _ (s : Side) (rows : List Row) (r : Rule) (k : ℕ) (same : k ≡ scarces s r) where
+  pub reduced_few : k < 2 → r ≡ reduce s rows r
+  unfolding reduce horn
+  reduced_few f = rw (← same, lt-ltb k 2 f)
 
-    pub reduced_dual : family ≡ 2 → Holding (reduce high rows (rule_in h)) r → Holding (reduce_for family rows (rule_in h)) r
-    unfolding reduce_for
-    reduced_dual e m = rw e m
-
-    pub reduced_trim : (family ≡ 0 → ⊥) → (family ≡ 1 → ⊥) → (family ≡ 2 → ⊥) → Holding (trim rows [] (rule_in h)) r → Holding (reduce_for family rows (rule_in h)) r
-    unfolding reduce_for
-    reduced_trim a b c m = go family a b c
-      where
-        go : (f : ℕ) → (f ≡ 0 → ⊥) → (f ≡ 1 → ⊥) → (f ≡ 2 → ⊥) → Holding (reduce_for f rows (rule_in h)) r
-        go zero a b c = absurd (a refl)
-        go (suc zero) a b c = absurd (b refl)
-        go (suc (suc zero)) a b c = absurd (c refl)
-        go (suc (suc (suc f))) a b c = m
+  pub reduced_many : 2 ≤ k → keep_for s r (extreme s (keep_for s r none) none rows) ≡ reduce s rows r
+  unfolding reduce horn keep_for
+  reduced_many f = rw (← same, le-ltb k 2 f)

@@ -1,120 +1,133 @@
--- Closures: the answer of the search for rows that show a table not closed, and the steps of that search.
-use Prim.Native.Nat.{ℕ, zero, suc, ◌+◌, ◌/◌, ◌-◌, ◌≤◌, ◌<◌}
+-- Closures: the answer of the search for rows that show a table not closed, and what a search over a range of row numbers finds.
+use Prim.Native.Nat.{ℕ, zero, suc, ◌+◌, ◌-◌, ◌≤◌, ◌<◌}
 use native.Mathlib.Omega.{arith}
-use native.Mathlib.Nat.{sub-zero, div-le_self}
+use native.Mathlib.Nat.{sub-zero}
 use native.Mathlib.Numerals.{add-one}
-use mathlib.Core.Path.{◌≡◌, refl, sym, ◌∙◌}
-use mathlib.Core.Logic.{◌≢◌}
+use mathlib.Core.Path.{◌≡◌, refl, sym, subst, ◌∙◌}
 use mathlib.Core.Bool.{Bool, true, false}
 use mathlib.Core.List.{List, [], ◌∷◌}
 use mathlib.Core.Option.{Option, none, some}
+use Rattle.std.specs.Prelude as std
+use Rattle.std.specs.Prelude.{Some, None, IsTrue, MatchOption, IsSomeAnd}
+use Rattle.std.specs.Option.{option_map}
+use Rattle.std.specs.declared.ops.Range.{Range}
+use Rattle.std.specs.Iterator.Runs.{Run, SomeRun, AllItemsGive, IsFirstToGive, CallKeepsClosure}
+use Rattle.std.proofs.iter.Yields.{nat_range_steps}
+use Rattle.std.proofs.iter.runs.Sources.{range_runs}
+use denote.Param.Members.{Mut, Called}
 use lib.ListN.{length}
-use Rattle.meaning.specs.Rows.{Row, rows_of}
-use Rattle.meaning.specs.Rules.{Side, low, high}
+use Rattle.meaning.specs.Rows.{Row}
+use Rattle.meaning.specs.Rules.{Side, low, high, by_family}
 use Rattle.meaning.specs.Closed.{first, unless, first_pair, first_triple, try_pair, try_triple, open_pair, open_triple, open_rows}
-use Rattle.meaning.proofs.Flat.{rows_count}
-use Rattle.tables.specs.declared.Closure.{Closure}
-use Rattle.tables.specs.declared.Closure.TheVariants.{Closed, Pair, Triple}
+use Rattle.literals.specs.declared.kinds.Family.{Family}
+use Rattle.literals.specs.declared.kinds.Family.TheVariants.{General, Horn, Dual, Bijunctive}
+use Rattle.literals.specs.Kinds.{family_of}
+use Rattle.tables.specs.declared.Open.{Open}
+use Rattle.tables.specs.declared.Open.TheVariants.{Pair, Triple}
 use Rattle.tables.specs.Inner.{shown, pair_after, triple_after, triples_after}
-use Rattle.tables.proofs.laws.Loops.{first_end, first_hit, first_miss}
+use Rattle.tables.proofs.laws.Loops.{finds}
 
--- ---- one loop for each row number, the last changing fastest
+-- ---- one search for each row number, the last changing fastest
 
-pub pairs_are : (s : Side) (l : ℕ) (table : List ℕ) → open_pair s (rows_of l table) ≡ first (pair_after s l table) 0 (length table / l)
-unfolding open_pair first_pair pair_after
-pairs_are s l table = rw rows_count
+module _ (rows : List Row) where
+  pub pair_is : (s : Side) (i : ℕ) → first (try_pair s rows i) (i + 1) (length rows - (i + 1)) ≡ pair_after s rows i
+  unfolding pair_after
+  pair_is s i = rw add-one
 
-pub triples_are : (l : ℕ) (table : List ℕ) → open_triple (rows_of l table) ≡ first (triples_after l table) 0 (length table / l)
-unfolding open_triple first_triple first_pair triple_after triples_after
-triples_are l table = rw rows_count
+  pub pairs_are : (s : Side) → first (pair_after s rows) 0 (length rows - 0) ≡ open_pair s rows
+  unfolding open_pair first_pair pair_after
+  pairs_are s = rw sub-zero
 
--- ---- the search before row j of one loop: what is left of it gives the whole
-
-pub record Looking (f : ℕ → Option (List ℕ)) (l : ℕ) (table : List ℕ) (whole : Option (List ℕ)) (j : ℕ) : Type 0 where
-  pub inside : j ≤ length table / l
-  pub few : length table / l ≤ length table
-  pub left : whole ≡ first f j (length table / l - j)
-
-module _ (f : ℕ → Option (List ℕ)) (l : ℕ) (table : List ℕ) (whole : Option (List ℕ)) (j : ℕ) (c : Looking f l table whole j) where
-  pub look_end : length table / l ≤ j → none ≡ whole
-  look_end h = sym (c.left ∙ first_end f (length table / l) j h)
-
-  pub look_on : j < length table / l → none ≡ f j → Looking f l table whole (j + 1)
-  look_on h e = record { inside = omega arith; few = c.few; left = c.left ∙ first_miss f (length table / l) j h (sym e) }
-
-  pub look_found : (a : List ℕ) → j < length table / l → some a ≡ f j → some a ≡ whole
-  look_found a h e = sym (c.left ∙ first_hit f (length table / l) j a h (sym e))
-
-module _ (f : ℕ → Option (List ℕ)) (l : ℕ) (table : List ℕ) where
-  look_from : (s : ℕ) → s ≤ length table / l → Looking f l table (first f s (length table / l - s)) s
-  look_from s h = record { inside = h; few = div-le_self (length table) l; left = refl }
-
-  look_after : (i : ℕ) → i < length table / l → Looking f l table (first f (suc i) (length table / l - suc i)) (i + 1)
-  look_after i h = rw add-one (look_from (suc i) h)
-
-  look_all : Looking f l table (first f 0 (length table / l)) 0
-  look_all = rw sub-zero at (look_from 0 (omega arith))
-
-module _ (l : ℕ) (table : List ℕ) where
-  module _ (s : Side) where
-    pub pair_look : (i : ℕ) → i < length table / l → Looking (try_pair s (rows_of l table) i) l table (pair_after s l table i) (i + 1)
-    unfolding pair_after
-    pair_look i h = look_after (try_pair s (rows_of l table) i) l table i h
-
-    pub pairs_look : Looking (pair_after s l table) l table (open_pair s (rows_of l table)) 0
-    pairs_look = rw pairs_are (look_all (pair_after s l table) l table)
-
-  pub triple_look : (i j : ℕ) → j < length table / l → Looking (try_triple (rows_of l table) i j) l table (triple_after l table i j) (j + 1)
+  pub triple_is : (i j : ℕ) → first (try_triple rows i j) (j + 1) (length rows - (j + 1)) ≡ triple_after rows i j
   unfolding triple_after
-  triple_look i j h = look_after (try_triple (rows_of l table) i j) l table j h
+  triple_is i j = rw add-one
 
-  pub triples_look : (i : ℕ) → i < length table / l → Looking (triple_after l table i) l table (triples_after l table i) (i + 1)
+  pub triples_is : (i : ℕ) → first (triple_after rows i) (i + 1) (length rows - (i + 1)) ≡ triples_after rows i
   unfolding triples_after
-  triples_look i h = look_after (triple_after l table i) l table i h
+  triples_is i = rw add-one
 
-  pub all_look : Looking (triples_after l table) l table (open_triple (rows_of l table)) 0
-  all_look = rw triples_are (look_all (triples_after l table) l table)
+  pub triples_are : first (triples_after rows) 0 (length rows - 0) ≡ open_triple rows
+  unfolding open_triple first_triple first_pair triple_after triples_after
+  triples_are = rw sub-zero
 
--- ---- what is found at one place
+-- ---- `find` over a range, and `map`: v names what is found, as the numbers a
 
-module _ (a : List ℕ) (t u : Bool) (asked : t ≡ u) where
-  pub kept : t ≡ true → none ≡ unless u a
+module _ (test : ℕ → Bool) (a : ℕ → List ℕ) (v : ℕ → Open) (named : (j : ℕ) → shown (Some (v j)) ≡ some (a j)) (s e : ℕ) where
+  pub found_after : (r : std.Option ℕ) → MatchOption r ((k : ℕ) → s ≤ k → k < e → test k ≡ true)
+      (λ i. (s ≤ i) × (i < e) × (test i ≡ false) × ((k : ℕ) → s ≤ k → k < i → test k ≡ true))
+      → (o : std.Option Open) → o ≡ option_map v r → shown o ≡ first (λ j. unless (test j) (a j)) s (e - s)
   unfolding unless
-  kept e = rw (sym asked ∙ e)
+  found_after None h o q = rw q (finds (λ j. unless (test j) (a j)) s e none (λ k b c. rw (h k b c)))
+  found_after (Some i) h o q = rw (q, named i) (finds (λ j. unless (test j) (a j)) s e (some (a i)) (i, h.0, h.1, rw h.2, λ k b c. rw (h.3 k b c)))
 
-  pub missed : t ≡ false → some a ≡ unless u a
-  unfolding unless
-  missed e = rw (sym asked ∙ e)
+-- ---- `find_map` over a range
 
--- ---- an answer of the inner loop ends the outer one unless it is `Closed`
+module _ (p : Run nat_range_steps) where
+  item : (k : ℕ) → k < p.len → p.at k ≡ Some (p.from.start + k)
+  item k h = go (p.at k) ((range_runs p p.seen).3 k h)
+    where
+      go : (o : std.Option ℕ) → option_map (λ y. y) o ≡ Some (p.from.start + k) → o ≡ Some (p.from.start + k)
+      go None e = cc
+      go (Some x) e = e
 
-module _ (f : ℕ → Option (List ℕ)) (l : ℕ) (table : List ℕ) (whole : Option (List ℕ)) (j : ℕ) (c : Looking f l table whole j) (h : j < length table / l) where
-  pub look_past : (r : Closure) → shown r ≡ f j → r ≡ Closed → Looking f l table whole (j + 1)
-  look_past r e z = look_on f l table whole j c h (rw z at e)
+module _ {F : Type 0} {g : Mut F (ℕ × Unit {0}) (std.Option Open)} {f : F} (found : ℕ → Option (List ℕ))
+    (calls : (x : ℕ) (o : std.Option Open) (q : F) → Called g f (x, tt) o q → (q ≡ f) × (shown o ≡ found x)) where
+  keeps : CallKeepsClosure g f
+  keeps a r q c = (calls a.0 r q c).0
 
-  pub look_answer : (r : Closure) → shown r ≡ f j → r ≢ Closed → shown r ≡ whole
-  look_answer Closed e n = absurd (n refl)
-  look_answer (Pair a b) e n = look_found f l table whole j c (a ∷ b ∷ []) h e
-  look_answer (Triple a b d) e n = look_found f l table whole j c (a ∷ b ∷ d ∷ []) h e
+  -- the answer at place k of a run
+  given : (p : Run nat_range_steps) (k : ℕ) → k < p.len → (o : std.Option Open) → IsSomeAnd (p.at k) (λ x. Called g f (x, tt) o f) → found (p.from.start + k) ≡ shown o
+  given p k h o c = sym (calls (p.from.start + k) o f (rw (item p k h) at c)).1
+
+  found_at : (p : Run nat_range_steps) (y : Open) (a : List ℕ) → shown (Some y) ≡ some a
+      → (i : ℕ) × (i < p.len) × (p.len ≡ i + 1) × IsFirstToGive p g f (Some y) None i
+      → some a ≡ first found p.from.start (p.from.end - p.from.start)
+  found_at p y a e h =
+      let few : p.len ≤ p.from.end - p.from.start = (range_runs p p.seen).0 in
+      let w = h.3 keeps in
+      finds found p.from.start p.from.end (some a) (
+        p.from.start + h.0,
+        omega arith,
+        omega (arith, h.1),
+        given p h.0 h.1 (Some y) w.0 ∙ e,
+        λ k b c.
+            let j : k - p.from.start < p.len = omega (arith, h.1) in
+            let e : p.from.start + (k - p.from.start) ≡ k = omega arith in
+            rw e at (given p (k - p.from.start) j None (w.1 (k - p.from.start) (omega arith))),
+      )
+
+  run_finds : (p : Run nat_range_steps) (r : std.Option Open)
+      → MatchOption r (IsTrue p.whole × AllItemsGive p g f None) (λ y. (i : ℕ) × (i < p.len) × (p.len ≡ i + 1) × IsFirstToGive p g f (Some y) None i)
+      → shown r ≡ first found p.from.start (p.from.end - p.from.start)
+  run_finds p None h =
+      let long : p.len ≡ p.from.end - p.from.start = (range_runs p p.seen).1 h.0 in
+      finds found p.from.start p.from.end none (λ k b c.
+      let i : k - p.from.start < p.len = omega arith in
+      let e : p.from.start + (k - p.from.start) ≡ k = omega arith in
+      rw e at (given p (k - p.from.start) i None (rw (item p (k - p.from.start) i) (rw (item p (k - p.from.start) i) at (h.1 keeps (k - p.from.start))))))
+  run_finds p (Some (Pair a b)) h = found_at p (Pair a b) (a ∷ b ∷ []) refl h
+  run_finds p (Some (Triple a b c)) h = found_at p (Triple a b c) (a ∷ b ∷ c ∷ []) refl h
+
+  pub found_mapped : (s : Range ℕ) (r : std.Option Open)
+      → SomeRun nat_range_steps s (λ p. MatchOption r (IsTrue p.whole × AllItemsGive p g f None) (λ y. (i : ℕ) × (i < p.len) × (p.len ≡ i + 1) × IsFirstToGive p g f (Some y) None i))
+      → shown r ≡ first found s.start (s.end - s.start)
+  found_mapped s r h = subst (λ (s : Range ℕ). shown r ≡ first found s.start (s.end - s.start)) h.1 (run_finds h.0 r h.2)
 
 -- ---- by the family
 
-pub open_general : (rows : List Row) (family : ℕ) → family ≡ 0 → none ≡ open_rows family rows
+-- what is asked of the rows
+abbrev pub wanted : Family → List Row → Option (List ℕ)
+wanted General rows = none
+wanted Horn rows = open_pair low rows
+wanted Dual rows = open_pair high rows
+wanted Bijunctive rows = open_triple rows
+
+pub open_by : (rows : List Row) (number : ℕ) (f g : Family) (o : Option (List ℕ)) → f ≡ family_of number → f ≡ g → o ≡ wanted g rows → o ≡ open_rows number rows
 unfolding open_rows
-open_general rows family e = rw e
-
-module _ (rows : List Row) (o : Option (List ℕ)) where
-  pub open_horn : (family : ℕ) → family ≡ 1 → o ≡ open_pair low rows → o ≡ open_rows family rows
-  unfolding open_rows
-  open_horn family e q = rw e q
-
-  pub open_dual : (family : ℕ) → family ≡ 2 → o ≡ open_pair high rows → o ≡ open_rows family rows
-  unfolding open_rows
-  open_dual family e q = rw e q
-
-  pub open_bijunctive : (family : ℕ) → family ≢ 0 → family ≢ 1 → family ≢ 2 → o ≡ open_triple rows → o ≡ open_rows family rows
-  unfolding open_rows
-  open_bijunctive zero a b c q = absurd (a refl)
-  open_bijunctive (suc zero) a b c q = absurd (b refl)
-  open_bijunctive (suc (suc zero)) a b c q = absurd (c refl)
-  open_bijunctive (suc (suc (suc family))) a b c q = q
+open_by rows number f g o e d q = q ∙ rw (← d, e) (go number)
+  where
+    go : (number : ℕ) → wanted (family_of number) rows ≡ by_family number none (open_pair low rows) (open_pair high rows) (open_triple rows)
+    go zero = refl
+    go (suc zero) = refl
+    go (suc (suc zero)) = refl
+    go (suc (suc (suc number))) = refl

@@ -1,112 +1,62 @@
 -- Combining: two or three rows of a table are combined value by value into an array of sixteen.
-use Prim.Native.Nat.{ℕ, ◌+◌, ◌*◌, ◌/◌, ◌≤◌, ◌<◌}
+use Prim.Native.Nat.{ℕ, zero, suc, ◌+◌, ◌*◌, ◌/◌, ◌-◌, ◌≤◌, ◌<◌, max}
 use native.Mathlib.Omega.{arith}
-use native.Mathlib.Nat.{div-le_self}
-use native.Mathlib.Numerals.{add-one}
-use mathlib.Core.Path.{◌≡◌, refl, sym, ◌∙◌}
-use mathlib.Core.Bool.{Bool, true, false}
+use mathlib.Core.Path.{◌≡◌, refl, ◌∙◌}
+use mathlib.Core.Bool.{Bool}
 use mathlib.Core.List.{List}
-use lib.ListN.{length, take, set, length-set}
-use lib.Seq.{take-suc, take-suc-set, take_all}
-use Rattle.meaning.specs.Rows.{Row, at, is_row, rows_of}
-use Rattle.meaning.specs.Rules.{Side, low, high}
-use Rattle.meaning.specs.Families.{pick, mid}
-use Rattle.meaning.proofs.Combined.{at_both, at_median, length_both, length_median}
-use Rattle.meaning.proofs.Flat.{row_ends, row_length, row_at}
-use Rattle.tables.specs.Inner.{Rising, Ready, Known, pair_of, median_of}
-use Rattle.meaning.specs.Inner.{side_of}
+use lib.ListN.{length, get_or, take, drop}
+use lib.Seq.{take-suc}
+use Rattle.std.proofs.lemmas.List.{length-take, length-drop}
+use Rattle.meaning.specs.Rows.{Row, at, row, is_row, rows_of}
+use Rattle.meaning.specs.Rules.{Side}
+use Rattle.meaning.specs.Families.{fill, pick, mid, both, median}
+use Rattle.meaning.proofs.Flat.{row_bytes, row_ends, row_length, rows_count}
+use Rattle.tables.specs.Inner.{Ready, Known, pair_of, median_of}
 
--- ---- one value
+-- ---- a row, where it stands
 
-module _ (u v : ℕ) where
-  pub picked_high : (t : Bool) → t ≡ true → u < v → v ≡ pick (side_of t) u v
-  unfolding pick
-  picked_high t e h = rw e (omega arith)
+pub cut_out : (l : ℕ) (table : List ℕ) (i : ℕ) → i < length table / l
+    → take (i * l + l - i * l) (drop (i * l) table) ≡ row (rows_of l table) i
+cut_out l table i h =
+    let e : i * l + l - i * l ≡ l = omega arith in
+    rw (e, row_bytes l table i h)
 
-  pub picked_first : (t : Bool) → t ≡ true → v ≤ u → u ≡ pick (side_of t) u v
-  unfolding pick
-  picked_first t e h = rw e (omega arith)
-
-  pub picked_low : (t : Bool) → t ≡ false → u < v → u ≡ pick (side_of t) u v
-  unfolding pick
-  picked_low t e h = rw e (omega arith)
-
-  pub picked_second : (t : Bool) → t ≡ false → v ≤ u → v ≡ pick (side_of t) u v
-  unfolding pick
-  picked_second t e h = rw e (omega arith)
-
-pub middle_picked : (u v w a b c d : ℕ) → a ≡ pick low u v → b ≡ pick high u v → c ≡ pick low b w → d ≡ pick high a c → d ≡ mid u v w
-unfolding pick mid
-middle_picked u v w a b c d e f g h = h ∙ rw (g, f, e)
-
--- ---- the row x of l values: the first k of them are in the array
-
-pub record Filled (x : Row) (l : ℕ) (out : List ℕ) (k : ℕ) : Type 0 where
-  pub wide : length x ≡ l
-  pub narrow : l ≤ 16
-  pub long : length out ≡ 16
-  pub inside : k ≤ l
-  pub same : take k out ≡ take k x
-
-module _ (x : Row) (l : ℕ) where
-  filled_start : (out : List ℕ) → length out ≡ 16 → length x ≡ l → l ≤ 16 → Filled x l out 0
-  filled_start out g e h = record { wide = e; narrow = h; long = g; inside = omega arith; same = refl }
-
-  pub filled_end : (out : List ℕ) (k : ℕ) → Filled x l out k → l ≤ k → take l out ≡ x
-  filled_end out k c h =
-      let e : l ≡ k = omega (arith, c.inside) in
-      rw e (c.same ∙ take_all k x (omega (arith, c.wide)))
-
-  filled_on : (out : List ℕ) (k v : ℕ) → Filled x l out k → k < l → v ≡ at x k → Filled x l (set out k v) (k + 1)
-  filled_on out k v c h e = record {
-    wide = c.wide;
-    narrow = c.narrow;
-    long = length-set out k v ∙ c.long;
-    inside = omega arith;
-    same =
-        let p : k < length out = omega (arith, c.long, c.narrow) in
-        let q : k < length x = omega (arith, c.wide) in
-        rw (add-one, take-suc-set out k v p, take-suc x k 0 q, c.same, e);
-  }
-
--- ---- rows of a table
+pub cut_wide : (l : ℕ) (table : List ℕ) (i : ℕ) → i * l + l ≤ length table → length (take (i * l + l - i * l) (drop (i * l) table)) ≡ l
+cut_wide l table i h = rw length-take (omega (arith, length-drop (i * l) table))
 
 pub is_known : (l : ℕ) (table : List ℕ) (i : ℕ) → i < length table / l → Known l table i
-is_known l table i h = record { known = h; ends = row_ends l table i h; few = omega (arith, div-le_self (length table) l) }
+is_known l table i h = record { known = h; ends = row_ends l table i h }
 
-module _ (s : Side) (l : ℕ) (table : List ℕ) (i j : ℕ) (c : Known l table i) (d : Known l table j) where
-  pub pair_length : length (pair_of s l table i j) ≡ l
-  pair_length = rw (length_both, row_length l table i c.known, row_length l table j d.known) (omega arith)
+pub is_one : (l : ℕ) (table : List ℕ) (i : ℕ) → i < length (rows_of l table) → Known l table i
+is_one l table i h = is_known l table i (omega (arith, rows_count l table))
 
-  pub pair_start : (out : List ℕ) → length out ≡ 16 → l ≤ 16 → Filled (pair_of s l table i j) l out 0
-  pair_start out e h = filled_start (pair_of s l table i j) l out e pair_length h
+-- ---- an array that is filled
 
-  pub pair_on : (out : List ℕ) (k v : ℕ) → Filled (pair_of s l table i j) l out k → k < l
-      → v ≡ pick s (at table (i * l + k)) (at table (j * l + k)) → Filled (pair_of s l table i j) l (set out k v) (k + 1)
-  pair_on out k v f h e = filled_on (pair_of s l table i j) l out k v f h
-      (e ∙ rw (at_both, row_at l table i c.known k h, row_at l table j d.known k h))
+-- its first n values are the row that `fill` gives
+filled_row : (g : ℕ → ℕ) (out : List ℕ) (n : ℕ) → n ≤ length out → ((k : ℕ) → k < n → get_or out k 0 ≡ g k) → take n out ≡ fill g n
+unfolding fill
+filled_row g out zero h f = refl
+filled_row g out (suc n) h f = rw (take-suc out n 0 (omega arith), filled_row g out n (omega arith) (λ k i. f k (omega arith)), f n (omega arith))
 
-module _ (l : ℕ) (table : List ℕ) (i j m : ℕ) (c : Known l table i) (d : Known l table j) (e : Known l table m) where
-  pub median_length : length (median_of l table i j m) ≡ l
-  median_length =
-      rw (length_median, row_length l table i c.known, row_length l table j d.known, row_length l table m e.known) (omega arith)
+-- ---- the combined row in an array of sixteen, and whether it is a row
 
-  pub median_start : (out : List ℕ) → length out ≡ 16 → l ≤ 16 → Filled (median_of l table i j m) l out 0
-  median_start out f h = filled_start (median_of l table i j m) l out f median_length h
+max-self : (n : ℕ) → max n n ≡ n
+max-self n = omega arith
 
-  pub median_on : (out : List ℕ) (k v : ℕ) → Filled (median_of l table i j m) l out k → k < l
-      → v ≡ mid (at table (i * l + k)) (at table (j * l + k)) (at table (m * l + k)) → Filled (median_of l table i j m) l (set out k v) (k + 1)
-  median_on out k v f h g = filled_on (median_of l table i j m) l out k v f h
-      (g ∙ rw (at_median, row_at l table i c.known k h, row_at l table j d.known k h, row_at l table m e.known k h))
+module _ (l : ℕ) (table : List ℕ) (q : Ready l table) (out : List ℕ) (long : length out ≡ 16) where
+  abbrev pub rows : List Row
+  rows = rows_of l table
 
--- ---- the combined row is looked up
+  wide : (i : ℕ) → i < length rows → length (row rows i) ≡ l
+  wide i h = row_length l table i (omega (arith, rows_count l table))
 
-module _ (x : Row) (l : ℕ) (table out : List ℕ) (cut : take l out ≡ x) (wide : length x ≡ l) where
-  pub cut_length : l ≡ length (take l out)
-  cut_length = rw cut (sym wide)
+  module _ (i j : ℕ) (a : i < length rows) (b : j < length rows) where
+    pub pair_found : (s : Side) → ((k : ℕ) → k < l → get_or out k 0 ≡ pick s (at (row rows i) k) (at (row rows j) k))
+        → (r : Bool) → r ≡ is_row (take l out) rows → r ≡ is_row (pair_of s rows i j) rows
+    unfolding both
+    pair_found s f r e = e ∙ rw (filled_row _ out l (omega (arith, long, q.narrow)) f, wide i a, wide j b, max-self)
 
-  pub cut_rising : Ready l table → Rising (length (take l out)) table
-  cut_rising c = rw (← cut_length) c.ordered
-
-  pub cut_row : (r : Bool) → r ≡ is_row (take l out) (rows_of (length (take l out)) table) → r ≡ is_row x (rows_of l table)
-  cut_row r e = rw (← cut_length, cut) at e
+    pub median_found : (m : ℕ) → m < length rows → ((k : ℕ) → k < l → get_or out k 0 ≡ mid (at (row rows i) k) (at (row rows j) k) (at (row rows m) k))
+        → (r : Bool) → r ≡ is_row (take l out) rows → r ≡ is_row (median_of rows i j m) rows
+    unfolding median
+    median_found m c f r e = e ∙ rw (filled_row _ out l (omega (arith, long, q.narrow)) f, wide i a, wide j b, wide m c, max-self, max-self)

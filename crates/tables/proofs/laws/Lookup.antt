@@ -1,5 +1,5 @@
 -- Lookup: a row is found by halving the rows among which it may be.
-use Prim.Native.Nat.{ℕ, ◌+◌, ◌*◌, ◌/◌, ◌-◌, ◌≤◌, ◌<◌}
+use Prim.Native.Nat.{ℕ, ◌+◌, ◌/◌, ◌-◌, ◌≤◌, ◌<◌}
 use native.Mathlib.Omega.{arith}
 use native.Mathlib.Nat.{div-le_self}
 use mathlib.Core.Path.{◌≡◌, sym, ◌∙◌}
@@ -7,17 +7,20 @@ use mathlib.Core.Logic.{inl, inr}
 use mathlib.Core.Bool.{true, false, false≢true}
 use mathlib.Core.List.{List}
 use lib.Dec.{T}
-use lib.ListN.{length, take, drop}
+use lib.ListN.{length}
 use Rattle.meaning.specs.Rows.{Row, row, before, ascending, same, is_row, rows_of}
 use Rattle.meaning.proofs.Tests.{is, isnt, case, lt_or_le, yes_of, no_of, is_yes, is_no}
 use Rattle.meaning.proofs.Order.{before_irreflexive, before_transitive, before_total}
 use Rattle.meaning.proofs.Members.{same_refl, same_eq, is_row_mem, row_mem, mem_row}
 use Rattle.meaning.proofs.Sound.{ascending_before}
-use Rattle.meaning.proofs.Flat.{rows_count, row_bytes, row_ends}
-use Rattle.tables.specs.declared.order.Compared.{Compared}
-use Rattle.tables.specs.declared.order.Compared.TheVariants.{Below, Same, Above}
-use Rattle.tables.specs.Inner.{compared_of, Rising}
-use Rattle.tables.proofs.laws.Compare.{compared_says}
+use Rattle.meaning.proofs.Flat.{rows_count}
+use Rattle.std.specs.declared.cmp.Ordering.{Ordering}
+use Rattle.std.specs.declared.cmp.Ordering.TheVariants.{Less, Equal, Greater}
+use Rattle.std.specs.Ordering.{nat_cmp}
+use Rattle.std.specs.Cmp.Lexicographic.{slice_cmp}
+use Rattle.tables.specs.Inner.{Rising, Known}
+use Rattle.tables.proofs.laws.Compare.{is_less, is_same, is_more}
+use Rattle.tables.proofs.laws.Combining.{is_known}
 
 -- ---- the rows from low up to high are those among which x may be
 
@@ -90,40 +93,33 @@ module _ (x : Row) (table : List ℕ) where
     unfolding middle
     middle_known = omega (arith, c.between.inside, rows_count (length x) table)
 
-    pub middle_ends : (low + (high - low) / 2) * length x + length x ≤ length table
+    pub middle_is : Known (length x) table (low + (high - low) / 2)
     unfolding middle
-    middle_ends = row_ends (length x) table middle middle_known
+    middle_is = is_known (length x) table middle middle_known
 
-    module _ (r : Compared)
-        (compared : r ≡ compared_of x
-        (take ((low + (high - low) / 2) * length x + length x - (low + (high - low) / 2) * length x)
-        (drop ((low + (high - low) / 2) * length x) table))) where
-      middle_compared : r ≡ compared_of x (row (rows_of (length x) table) middle)
+    module _ (y : Row) (there : y ≡ row (rows_of (length x) table) (low + (high - low) / 2)) (r : Ordering) (compared : r ≡ slice_cmp nat_cmp x y) where
+      compared_row : r ≡ slice_cmp nat_cmp x (row (rows_of (length x) table) middle)
       unfolding middle
-      middle_compared =
-          let e : middle * length x + length x - middle * length x ≡ length x = omega arith in
-          compared ∙ rw (e, row_bytes (length x) table middle middle_known)
+      compared_row = rw there at compared
 
-      pub halving_low : r ≡ Below → Halving low (low + (high - low) / 2)
+      pub halving_low : r ≡ Less → Halving low (low + (high - low) / 2)
       unfolding middle
       halving_low e = record {
         ordered = c.ordered;
         few = omega (arith, c.few);
-        between = between_low x (rows_of (length x) table) c.ordered.rising low high middle c.between (omega arith)
-            (compared_says _ _ r Below middle_compared e);
+        between = between_low x (rows_of (length x) table) c.ordered.rising low high middle c.between (omega arith) (is_less _ _ r compared_row e);
       }
 
-      pub halving_high : r ≡ Above → Halving (low + (high - low) / 2 + 1) high
+      pub halving_high : r ≡ Greater → Halving (low + (high - low) / 2 + 1) high
       unfolding middle
       halving_high e =
-          let (p, q) = compared_says _ _ r Above middle_compared e in
+          let (p, q) = is_more _ _ r compared_row e in
           record {
             ordered = c.ordered;
             few = c.few;
             between = between_high x (rows_of (length x) table) c.ordered.rising low high middle c.between (omega arith) p q;
           }
 
-      pub halving_found : r ≡ Same → true ≡ is_row x (rows_of (length x) table)
+      pub halving_found : r ≡ Equal → true ≡ is_row x (rows_of (length x) table)
       unfolding middle
-      halving_found e = sym (between_found x (rows_of (length x) table) c.ordered.rising low high middle c.between (omega arith)
-          (compared_says _ _ r Same middle_compared e).1)
+      halving_found e = sym (between_found x (rows_of (length x) table) c.ordered.rising low high middle c.between (omega arith) (is_same _ _ r compared_row e))

@@ -1,4 +1,4 @@
--- Promised: what the answer of the check says. `Sound` is given just for a sound table, and each refusal shows what is wrong.
+-- Promised: what the answer of the check says. `Ok` is given just for a sound table, and each refusal shows what is wrong.
 use Prim.Native.Nat.{ℕ, ◌*◌, ◌/◌, ◌<◌}
 use native.Mathlib.Omega.{arith}
 use native.Mathlib.Nat.{mul-mod_left, div-add-mod'}
@@ -7,6 +7,7 @@ use mathlib.Core.Logic.{◌↔◌}
 use mathlib.Core.Bool.{true, false, false≢true}
 use mathlib.Core.List.{List}
 use mathlib.Core.Option.{Option, none, some}
+use Rattle.std.specs.Prelude.{Ok, Err}
 use lib.ListN.{length}
 use Rattle.meaning.specs.Rows.{alike, ascending, all_within, sound, rows_of, limits, Limited}
 use Rattle.meaning.specs.Closed.{or_else, unless}
@@ -15,7 +16,6 @@ use Rattle.meaning.proofs.Alike.{alike_length}
 use Rattle.meaning.proofs.Flat.{rows_whole}
 use Rattle.tables.specs.declared.Flaw.{Flaw}
 use Rattle.tables.specs.declared.Flaw.TheVariants.{Limits, Length, Rows, Value, Order}
-use Rattle.tables.specs.declared.Checked.TheVariants.{Sound, Flawed}
 use Rattle.tables.specs.Check.{flaw_of, answer, checked_of, Passes}
 use Rattle.tables.specs.Inner.{Ready}
 use Rattle.meaning.proofs.Limits.{limits_hold}
@@ -29,11 +29,11 @@ ShowsOf n l table (Rows k) = Limited n l × Shows (alike n l) table (Rows k)
 ShowsOf n l table (Value p) = Limited n l × Shows (alike n l) table (Value p)
 ShowsOf n l table (Order k) = Limited n l × Shows (alike n l) table (Order k)
 
-answer_sound : (k m : ℕ) (o : Option Flaw) → answer k o ≡ Sound m → (o ≡ none) × (k ≡ m)
+answer_sound : (k m : ℕ) (o : Option Flaw) → answer k o ≡ Ok m → (o ≡ none) × (k ≡ m)
 answer_sound k m none e = (refl, cc)
 answer_sound k m (some f) e = let z : ◌≡◌ {A = ℕ} 0 1 = cc in absurd (omega arith)
 
-answer_flawed : (k : ℕ) (f : Flaw) (o : Option Flaw) → answer k o ≡ Flawed f → o ≡ some f
+answer_flawed : (k : ℕ) (f : Flaw) (o : Option Flaw) → answer k o ≡ Err f → o ≡ some f
 answer_flawed k f none e = let z : ◌≡◌ {A = ℕ} 0 1 = cc in absurd (omega arith)
 answer_flawed k f (some g) e = let z : g ≡ f = cc in rw z
 
@@ -42,7 +42,7 @@ module _ (n l : ℕ) (table : List ℕ) where
   unfolding checked_of unless or_else
   checked_within e = rw e
 
-  checked_outside : limits n l ≡ false → checked_of n l table ≡ Flawed Limits
+  checked_outside : limits n l ≡ false → checked_of n l table ≡ Err Limits
   unfolding checked_of unless or_else
   checked_outside e = rw e
 
@@ -52,7 +52,7 @@ module _ (n l : ℕ) (table : List ℕ) where
   wide : Limited n l → 0 < length (alike n l)
   wide c = omega (arith, alike_length n l, c.wide)
 
-  pub checked_flawed : (f : Flaw) → checked_of n l table ≡ Flawed f → ShowsOf n l table f
+  pub checked_flawed : (f : Flaw) → checked_of n l table ≡ Err f → ShowsOf n l table f
   checked_flawed f e = elim (case (limits n l)) [
     | isnt t ↦
         let g = checked_outside t in
@@ -71,7 +71,7 @@ module _ (n l : ℕ) (table : List ℕ) where
       shows (Order k) c t = (c, t)
 
   module _ (k : ℕ) where
-    sound_passes : checked_of n l table ≡ Sound k → Passes n l table k
+    sound_passes : checked_of n l table ≡ Ok k → Passes n l table k
     sound_passes e = elim (case (limits n l)) [
       | isnt t ↦
           let g = checked_outside t in
@@ -89,7 +89,7 @@ module _ (n l : ℕ) (table : List ℕ) where
           }
     ]
 
-    passes_sound : Passes n l table k → checked_of n l table ≡ Sound k
+    passes_sound : Passes n l table k → checked_of n l table ≡ Ok k
     passes_sound c =
         let e = rows_whole l table k c.limited.wide c.whole in
         let d : Counted (alike n l) table = record {
@@ -99,7 +99,7 @@ module _ (n l : ℕ) (table : List ℕ) where
         let f = (flaw_none (alike n l) table (wide c.limited)).1 (d, rw alike_length c.rows_sound) in
         checked_within ((limits_hold n l).1 c.limited) ∙ rw (e, f)
 
-    pub checked_sound : (checked_of n l table ≡ Sound k) ↔ Passes n l table k
+    pub checked_sound : (checked_of n l table ≡ Ok k) ↔ Passes n l table k
     checked_sound = (sound_passes, passes_sound)
 
   -- what the searches ask of a table

@@ -1,17 +1,9 @@
--- `clean`: a loop that passes zeros; what is left to test gives the whole.
-use native.Mathlib.Omega.{arith}
-use borrow.Author.Rules.{rules}
-use Rattle.listing.proofs.laws.CursorTests.{cleaning_start, cleaning_on, cleaning_no, cleaning_end}
+-- `clean`: what `all` tells of the values past the length.
+use Rattle.std.proofs.Common.{rules, tests, eqb}
+use Rattle.std.proofs.lemmas.Iterator.{YieldsList-from_slice}
+use Rattle.std.proofs.lemmas.Iterator.Search.{all_from_yields_List}
+use Rattle.listing.proofs.laws.CursorTests.{cleaned_all}
 use Rattle.listing.proofs.cursor.clean.Goals as goal
 
-pub loop-i-init : goal.loop-i-init
-loop-i-init c = cleaning_start _ _ (search rules) (search rules)
-
-pub returns-then-values-i-ne0 : goal.returns-then-values-i-ne0
-returns-then-values-i-ne0 c = search (cleaning_no, arith)
-
-pub loop-i-preserved : goal.loop-i-preserved
-loop-i-preserved c = search (cleaning_on, arith)
-
 pub returns : goal.returns
-returns c = search (cleaning_end, arith)
+returns c = cleaned_all _ (search rules) _ (all_from_yields_List (λ v. eqb v 0) _ _ _ c.all.ensures.ran (YieldsList-from_slice _ c.iter.ensures.rest) (λ x b q k. search (rules, tests)))

@@ -1,16 +1,14 @@
--- `deeper`: each way out is a lemma of laws/Moves.
+-- `deeper`: both ways out are lemmas of laws/Moves.
+use mathlib.Core.Path.{refl}
 use native.Mathlib.Omega.{arith}
-use Rattle.listing.proofs.laws.Moves.{move_bad, down_fits, down_full, down_on}
+use Rattle.listing.proofs.laws.Moves.{down_fits, down_full, down_on}
 use Rattle.listing.proofs.cursor.deeper.Goals as goal
 
-pub returns-then-not-cursor_ok : goal.returns-then-not-cursor_ok
-returns-then-not-cursor_ok c = search (move_bad, arith)
-
-pub returns-then-len-sizes : goal.returns-then-len-sizes
-returns-then-len-sizes c = search (down_full, arith)
+pub returns-then-c-sizes : goal.returns-then-c-sizes
+returns-then-c-sizes c = down_full _ _ c.requires.0 _ c.requires.1 refl c.if-c-sizes.true
 
 pub overflow_add-result : goal.overflow_add-result
-overflow_add-result c = omega (arith, down_fits _ _ c.requires _ c.cursor_ok.ensures c.if-not-cursor_ok.false)
+overflow_add-result c = omega (arith, down_fits _ _ c.requires.0 _ c.requires.1 refl)
 
 pub returns : goal.returns
-returns c = search (down_on, arith)
+returns c = down_on _ _ c.requires.0 _ c.requires.1 refl c.if-c-sizes.false

@@ -1,17 +1,11 @@
--- `inside`: a loop that passes values below their sizes; what is left to test gives the whole.
-use native.Mathlib.Omega.{arith}
-use borrow.Author.Rules.{rules}
-use Rattle.listing.proofs.laws.CursorTests.{fitting_start, fitting_on, fitting_no, fitting_end}
+-- `inside`: what `all` tells of the values up to the length.
+use Rattle.std.proofs.Common.{ℕ, rules, tests, ltb, take}
+use Rattle.std.proofs.lemmas.Iterator.{YieldsList-from_slice, YieldsList-from_zip}
+use Rattle.std.proofs.lemmas.Iterator.Search.{all_from_yields_List}
+use Rattle.listing.proofs.laws.CursorTests.{fits_all}
 use Rattle.listing.proofs.cursor.inside.Goals as goal
 
-pub loop-i-init : goal.loop-i-init
-loop-i-init c = fitting_start _ _ _ (search rules)
-
-pub returns-then-sizes-i : goal.returns-then-sizes-i
-returns-then-sizes-i c = search (fitting_no, arith)
-
-pub loop-i-preserved : goal.loop-i-preserved
-loop-i-preserved c = search (fitting_on, arith)
-
 pub returns : goal.returns
-returns c = search (fitting_end, arith)
+returns c =
+    let a = c.args in
+    fits_all _ _ c.requires.0 c.requires.1 (search rules) _ (all_from_yields_List (λ (x : ℕ × ℕ). ltb x.0 x.1) c.all.new.self _ _ c.all.ensures.ran (YieldsList-from_zip (YieldsList-from_slice (take a.c.len a.c.values) cc) (YieldsList-from_slice a.sizes.now cc)) (λ x b q k. search (rules, tests)))

@@ -1,4 +1,3 @@
-use Prim.Native.Nat.{◌-◌}
 use lib.ListN.{length}
 use Rattle.listing.specs.Cursors.{prefix_of}
 use Rattle.listing.specs.Inner.{open_of}
@@ -7,6 +6,3 @@ use Rattle.listing.proofs.groups.sift.Given as goal
 
 abbrev pub invariant-loop-i : goal.invariant-loop-i
 invariant-loop-i l = Sifting (open_of l.book (prefix_of l.cur)) l.initial.places l.from l.end (length l.initial.hints) l.places (length l.hints) l.i l.k
-
-abbrev pub decreases-loop-i : goal.decreases-loop-i
-decreases-loop-i l = l.end - l.i

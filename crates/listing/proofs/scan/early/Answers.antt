@@ -1,24 +1,18 @@
--- `early`: what is left from here gives the whole; each way out is a lemma of laws/Early.
+-- `early`: what is left behind the first literals gives the whole; each way out is a lemma of laws/Early.
 use native.Mathlib.Omega.{arith}
-use Rattle.listing.proofs.laws.Early.{passing_start, passing_later, passing_holds, passing_on, passing_end}
+use Rattle.listing.proofs.laws.Early.{passing_later, passing_holds, passing_on, passing_end}
 use Rattle.listing.proofs.scan.early.Goals as goal
 
-pub loop-left-init : goal.loop-left-init
-loop-left-init c = search (passing_start, arith)
-
 pub returns-then-len-i : goal.returns-then-len-i
-returns-then-len-i c = search (passing_later, arith)
+returns-then-len-i c = passing_later _ _ c.requires.0 _ _ _ c.loop-k.invariant c.loop-k-test.true _ c.from-i.ensures c.if-len-i.true
 
 pub returns-then-holds : goal.returns-then-holds
 returns-then-holds c =
-    let s = c in
-    passing_holds _ _ s.requires.0 _ _ _ _ c.loop-left.invariant c.loop-left-test.true _ c.wide-i.ensures.0 c.if-len-i.false _ c.holds.ensures c.if-holds.true
+    passing_holds _ _ c.requires.0 _ _ _ c.loop-k.invariant c.loop-k-test.true _ c.from-i.ensures c.if-len-i.false _ c.holds.ensures c.if-holds.true
 
-pub loop-left-preserved : goal.loop-left-preserved
-loop-left-preserved c =
-    let s = c in
-    passing_on s.args.book.now s.args.cur s.requires.0 _ _ _ _ c.loop-left.invariant c.loop-left-test.true
-    _ c.wide-i.ensures.0 c.if-len-i.false _ c.holds.ensures c.if-holds.false
+pub loop-k-preserved : goal.loop-k-preserved
+loop-k-preserved c =
+    passing_on _ _ c.requires.0 _ _ _ c.loop-k.invariant c.loop-k-test.true _ c.from-i.ensures c.if-len-i.false _ c.holds.ensures c.if-holds.false
 
 pub returns : goal.returns
-returns c = search (passing_end, arith)
+returns c = passing_end c.args.book.now c.args.cur c.requires.0 _ _ _ c.loop-k.invariant (omega arith)

@@ -1,24 +1,24 @@
+-- `judge`: each way out is a lemma of laws/Judging.
 use native.Mathlib.Omega.{arith}
 use Rattle.listing.proofs.laws.Judging.{judges_empty, judges_past, judges_holds, judged_inside, judges_lasts, judges_interval}
 use Rattle.listing.proofs.scan.judge.Goals as goal
 
 pub returns-then-count-eq0 : goal.returns-then-count-eq0
-returns-then-count-eq0 c = search (judges_empty, arith)
+returns-then-count-eq0 c = rw c.forbids-none.ensures (search (judges_empty, arith))
 
-pub returns-then-last-len : goal.returns-then-last-len
-returns-then-last-len c = search (judges_past, arith)
-
-pub returns-then-len-last : goal.returns-then-len-last
-returns-then-len-last c = search (judges_lasts, arith)
+pub returns-then-last-cur : goal.returns-then-last-cur
+returns-then-last-cur c = rw c.forbids-none.ensures (search (judges_past, arith))
 
 pub interval-requires : goal.interval-requires
 interval-requires c =
     let s = c in
-    judged_inside _ _ _ s.requires.0 s.requires.1 s.requires.2 _ c.wide-count.ensures.0 c.if-count-eq0.false _ c.wide-last.ensures.0
-    _ c.early.ensures _ _ c.in-Left.is
+    judged_inside _ _ _ s.requires.0 s.requires.1 s.requires.2 _ c.from-count.ensures c.if-count-eq0.false _ c.from-last.ensures _ c.early.ensures _ _ c.in-Left.is
 
 pub returns-in-Holds : goal.returns-in-Holds
-returns-in-Holds c = search (judges_holds, arith)
+returns-in-Holds c = rw c.forbids-none.ensures (search (judges_holds, arith))
 
-pub returns-else-len-last : goal.returns-else-len-last
-returns-else-len-last c = search (judges_interval, arith)
+pub returns-in-Left : goal.returns-in-Left
+returns-in-Left c = rw c.forbids-none.ensures (search (judges_lasts, arith))
+
+pub returns-in-Left-2 : goal.returns-in-Left-2
+returns-in-Left-2 c = search (judges_interval, arith)

@@ -27,8 +27,5 @@ pub loop-i-preserved : goal.loop-i-preserved
 loop-i-preserved c =
     scanning_on _ _ _ _ _ _ _ _ _ c.loop-i.invariant c.loop-i-test.true _ c.judge-j.ensures _ c.without-allowed.ensures _ c.widen-span.ensures _ c.rule_end-at.ensures
 
-pub overflow_sub-result : goal.overflow_sub-result
-overflow_sub-result c = c.loop-i.invariant.spans.ordered.0
-
-pub returns : goal.returns
-returns c = scanning_end _ _ _ _ _ _ c.requires.1 _ _ _ _ c.loop-i.invariant c.loop-i-test.false
+pub returns-in-Some : goal.returns-in-Some
+returns-in-Some c = rw c.in-Some.is at (scanning_end _ _ _ _ _ _ c.requires.1 _ _ _ _ c.loop-i.invariant c.loop-i-test.false)

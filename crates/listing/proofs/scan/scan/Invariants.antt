@@ -1,11 +1,7 @@
 -- `scan`: the loop judges one rule after another; its invariant is `Scanning` of laws/Windows.
-use Prim.Native.Nat.{◌-◌}
 use Rattle.listing.specs.Cursors.{prefix_of}
 use Rattle.listing.proofs.laws.Windows.{Scanning}
 use Rattle.listing.proofs.scan.scan.Given as goal
 
 abbrev pub invariant-loop-i : goal.invariant-loop-i
 invariant-loop-i l = Scanning l.book l.from (prefix_of l.cur) l.set l.rules l.allowed l.span l.at l.i
-
-abbrev pub decreases-loop-i : goal.decreases-loop-i
-decreases-loop-i l = l.rules - l.i

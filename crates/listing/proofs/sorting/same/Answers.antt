@@ -1,18 +1,8 @@
-use native.Mathlib.Omega.{arith}
-use Rattle.listing.proofs.laws.Sorting.{alike_start, alike_on, same_not, alike_same}
+-- `same`: what `==` tells of the bytes behind the marks.
+use Rattle.std.proofs.lemmas.Bool.Decides.{Decides-eqb}
+use Rattle.std.proofs.lemmas.Slice.Eq.{slice_eq-Decides}
+use Rattle.listing.proofs.laws.Sorting.{same_bytes}
 use Rattle.listing.proofs.sorting.same.Goals as goal
 
 pub returns-then-book-q : goal.returns-then-book-q
-returns-then-book-q c = same_not _ _ _
-
-pub loop-i-init : goal.loop-i-init
-loop-i-init c = alike_start _ _ _
-
-pub returns-then-book-p : goal.returns-then-book-p
-returns-then-book-p c = same_not _ _ _
-
-pub loop-i-preserved : goal.loop-i-preserved
-loop-i-preserved c = search (alike_on, arith)
-
-pub returns : goal.returns
-returns c = alike_same _ _ _ _ _ c.if-book-q.false c.wide-end.ensures.0 c.loop-i.invariant c.loop-i-test.false
+returns-then-book-q c = same_bytes _ _ _ _ c.from-size.ensures c.if-book-q.true _ (slice_eq-Decides Decides-eqb _ _ _ c.eq.ensures)

@@ -6,7 +6,12 @@ use Rattle.listing.proofs.laws.Sorting.{none_sorted}
 use Rattle.listing.proofs.start.by_run.Goals as goal
 
 pub resume-requires : goal.resume-requires
-resume-requires c = let s = c in let a = s.args in let r = c.beginning-root in let ready = start_ready a.book.now a.rules a.sizes.now a.room.now a.c a.fit a.budget s.requires.0 r.result r.ensures in let opened = start_open a.book.now a.rules a.sizes.now a.room.now a.c a.fit a.budget s.requires.0 r.result r.ensures s.requires.1 _ _ _ _ _ (none_sorted _ _ (replicate 1 0)) 1 (omega arith) in (ready.0, ready.1, opened.0, opened.1)
+resume-requires c =
+    let p = c.requires in
+    let r = c.beginning-root.ensures in
+    let ready = start_ready _ _ _ _ _ _ c.args.budget p.0 _ r in
+    let opened = start_open _ _ _ _ _ _ c.args.budget p.0 _ r p.1 _ _ _ _ _ (none_sorted _ _ (replicate 1 0)) 1 (omega arith) in
+    (ready.0, ready.1, opened.0, opened.1)
 
 pub returns : goal.returns
-returns c = let s = c in let a = s.args in let r = c.beginning-root in let w = c.resume in start_on a.book.now a.rules a.sizes.now a.room.now a.c a.fit a.budget s.requires.0 r.result r.ensures a.w w.result w.new.room w.ensures.0
+returns c = start_on _ _ _ _ _ _ _ c.requires.0 _ c.beginning-root.ensures _ _ _ c.resume.ensures.0

@@ -1,12 +1,9 @@
 use native.Mathlib.Omega.{arith}
 use mathlib.Core.List.{[], ◌∷◌, ◌++◌}
-use Rattle.books.proofs.laws.Put.{copied_start, copied_on, copied_end}
+use Rattle.books.proofs.laws.Put.{copied_on, copied_end}
 use Rattle.listing.specs.Cursors.{prefix_of}
 use Rattle.listing.proofs.laws.Copying.{row_long}
 use Rattle.listing.proofs.steps.put_row.Goals as goal
-
-pub loop-i-init : goal.loop-i-init
-loop-i-init c = copied_start _ _ (prefix_of c.args.cur ++ (c.args.v ∷ [])) (omega (arith, row_long c.args.cur c.args.v c.requires.0, c.requires.1))
 
 pub loop-i-preserved : goal.loop-i-preserved
 loop-i-preserved c = rw c.value.ensures (copied_on _ _ (prefix_of c.args.cur ++ (c.args.v ∷ [])) (omega (arith, row_long c.args.cur c.args.v c.requires.0, c.requires.1)) _ _ c.loop-i.invariant (omega (arith, row_long c.args.cur c.args.v c.requires.0, c.loop-i-test.true)))

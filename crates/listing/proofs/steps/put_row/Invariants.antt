@@ -1,4 +1,3 @@
-use Prim.Native.Nat.{◌+◌, ◌-◌}
 use mathlib.Core.List.{[], ◌∷◌, ◌++◌}
 use Rattle.books.proofs.laws.Put.{Copied}
 use Rattle.listing.specs.Cursors.{prefix_of}
@@ -6,6 +5,3 @@ use Rattle.listing.proofs.steps.put_row.Given as goal
 
 abbrev pub invariant-loop-i : goal.invariant-loop-i
 invariant-loop-i l = Copied l.initial.room l.at (prefix_of l.cur ++ (l.v ∷ [])) l.i l.room
-
-abbrev pub decreases-loop-i : goal.decreases-loop-i
-decreases-loop-i l = l.len + 1 - l.i

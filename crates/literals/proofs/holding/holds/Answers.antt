@@ -5,5 +5,5 @@ use Rattle.literals.proofs.holding.holds.Goals as goal
 pub returns-then-sign-eq0 : goal.returns-then-sign-eq0
 returns-then-sign-eq0 c = search holds_by_most
 
-pub returns : goal.returns
-returns c = search holds_by_least
+pub returns-else-sign-eq0 : goal.returns-else-sign-eq0
+returns-else-sign-eq0 c = search holds_by_least

@@ -1,9 +1,9 @@
--- `literals::scarcity::scarce` meets its contract: by cases on the flag (Scarce).
+-- `literals::scarcity::scarce` meets its contract: by cases on the side (Scarce).
 use Rattle.literals.proofs.laws.Scarce.{scarce_high, scarce_low}
 use Rattle.literals.proofs.scarcity.scarce.Goals as goal
 
-pub returns-then-high : goal.returns-then-high
-returns-then-high c = search scarce_high
+pub returns-in-Low : goal.returns-in-Low
+returns-in-Low c = rw c.in-Low.is (scarce_low c.args.literal.now 0)
 
-pub returns : goal.returns
-returns c = search scarce_low
+pub returns-in-High : goal.returns-in-High
+returns-in-High c = rw c.in-High.is (scarce_high c.args.literal.now 0)

@@ -1,12 +1,8 @@
--- `literals::scarcity::scarces` meets its contract. The invariant counts the literals passed (NumberAt).
-use Prim.Native.Nat.{◌-◌}
-use Rattle.meaning.specs.Rules.{scarce}
-use Rattle.meaning.specs.Inner.{side_of}
-use Rattle.literals.proofs.laws.Number.{NumberAt}
+-- `literals::scarcity::scarces` meets its contract. The invariant counts the literals passed (ScarceFrom).
+use Rattle.std.proofs.Common.{◌≡◌}
+use Rattle.literals.specs.Kinds.{side_of}
+use Rattle.literals.proofs.laws.Scarce.{ScarceFrom}
 use Rattle.literals.proofs.scarcity.scarces.Given as goal
 
-abbrev pub invariant-loop-i : goal.invariant-loop-i
-invariant-loop-i l = NumberAt (scarce (side_of l.high)) l.book l.start l.c l.k l.p l.i
-
-abbrev pub decreases-loop-i : goal.decreases-loop-i
-decreases-loop-i l = l.c - l.i
+abbrev pub invariant-loop-literal : goal.invariant-loop-literal
+invariant-loop-literal l = (l.literal-iterator.size ≡ 3) × ScarceFrom (side_of l.side) l.literals l.literal-iterator.rest.now l.count

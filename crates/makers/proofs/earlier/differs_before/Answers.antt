@@ -1,15 +1,13 @@
--- `makers::earlier::differs_before` meets its contract. The invariant: in hand is what differs before setting i.
-use Rattle.makers.proofs.laws.Earlier.{differs_start, differs_few, differs_on, differs_end}
+-- `makers::earlier::differs_before` meets its contract. The invariant: the rule is what differs before setting i.
+use Rattle.std.proofs.Common.{arith, ◌∙◌}
+use Rattle.makers.proofs.laws.Earlier.{earlier_start, earlier_few, earlier_on}
 use Rattle.makers.proofs.earlier.differs_before.Goals as goal
 
 pub loop-i-init : goal.loop-i-init
-loop-i-init c = search differs_start
+loop-i-init c = c.empty-rule.ensures ∙ earlier_start _ _
 
-pub differ-h-requires : goal.differ-h-requires
-differ-h-requires c = search differs_few
+pub differ-requires : goal.differ-requires
+differ-requires c = earlier_few _ _ _ (omega arith) c.loop-i.invariant
 
 pub loop-i-preserved : goal.loop-i-preserved
-loop-i-preserved c = search differs_on
-
-pub returns : goal.returns
-returns c = search differs_end
+loop-i-preserved c = earlier_on _ _ _ c.loop-i.invariant c.differ.ensures

@@ -1,10 +1,7 @@
--- `makers::earlier::differs_before` meets its contract. The invariant: in hand is what differs before setting i.
-use Prim.Native.Nat.{◌-◌}
-use Rattle.makers.proofs.laws.Earlier.{Differs}
+-- `makers::earlier::differs_before` meets its contract. The invariant: the rule is what differs before setting i.
+use Rattle.std.proofs.Common.{◌≡◌}
+use Rattle.meaning.specs.General.{earlier}
 use Rattle.makers.proofs.earlier.differs_before.Given as goal
 
 abbrev pub invariant-loop-i : goal.invariant-loop-i
-invariant-loop-i l = Differs l.sizes l.row l.end l.i l.h
-
-abbrev pub decreases-loop-i : goal.decreases-loop-i
-decreases-loop-i l = l.end - l.i
+invariant-loop-i l = l.rule ≡ earlier l.sizes l.row l.i

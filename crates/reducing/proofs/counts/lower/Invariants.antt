@@ -1,13 +1,12 @@
--- `reducing::counts::lower` meets its contract. The invariant: the numbers before the row are changed (ChangeAt).
-use Prim.Native.Nat.{◌-◌}
-use lib.ListN.{length}
+-- `reducing::counts::lower` meets its contract. The invariant: the numbers of the rows passed are lowered (ChangeFrom).
+use Rattle.std.proofs.Common.{◌≡◌}
 use Rattle.meaning.specs.Bytes.{literal_at}
+use Rattle.meaning.specs.Rows.{rows_of}
 use Rattle.reducing.specs.Inner.{lowering}
-use Rattle.reducing.proofs.laws.Counted.{ChangeAt}
+use Rattle.reducing.proofs.laws.Counted.{ChangeFrom}
 use Rattle.reducing.proofs.counts.lower.Given as goal
 
-abbrev pub invariant-loop-at : goal.invariant-loop-at
-invariant-loop-at l = ChangeAt (lowering (literal_at l.bytes l.p)) l.l l.table l.initial.counts l.counts l.k l.at
-
-abbrev pub decreases-loop-at : goal.decreases-loop-at
-decreases-loop-at l = length l.table - l.at
+abbrev pub invariant-loop-k : goal.invariant-loop-k
+invariant-loop-k l =
+    (goal.iterator-loop-k).can_next l.k-iterator × (goal.iterator-loop-k).is_finite l.k-iterator ×
+    (l.k-iterator.iter.size ≡ l.l) × ChangeFrom (lowering (literal_at l.literal 0)) (rows_of l.l l.table) (rows_of l.l l.k-iterator.iter.rest.now) l.initial.counts l.counts l.k-iterator.count

@@ -1,20 +1,18 @@
--- `reducing::counts::number` meets its contract. The invariant counts the literals passed (NumberAt).
-use native.Mathlib.Omega.{arith}
-use Rattle.literals.proofs.laws.Places.{at_fits, left_start, left_on, left_known}
-use Rattle.literals.proofs.laws.Number.{number_start, number_few, number_on, number_end}
+-- `reducing::counts::number` meets its contract. The invariant counts the literals passed (NumberFrom).
+use Rattle.std.proofs.Common.{arith, ◌∙◌}
+use Rattle.reducing.proofs.laws.Passed.{known_on, number_on, number_end}
 use Rattle.reducing.proofs.counts.number.Goals as goal
 
-pub loop-j-init : goal.loop-j-init
-loop-j-init c = search (number_start, left_start)
+pub holds_in-requires : goal.holds_in-requires
+holds_in-requires c =
+    let s = c.in-Some.ensures.steps in
+    let three = s.1.1 ∙ c.loop-literal.invariant.0 in
+    (omega (arith, three), (known_on _ _ s.1.0 three c.loop-literal.invariant.1.known).0)
 
-pub one-more-requires : goal.one-more-requires
-one-more-requires c = search (at_fits, left_known)
-
-pub overflow_add-k : goal.overflow_add-k
-overflow_add-k c = omega (arith, number_few c.loop-j.invariant.0 c.one-more.ensures)
-
-pub loop-j-preserved : goal.loop-j-preserved
-loop-j-preserved c = search (number_on, left_on)
+pub loop-literal-preserved : goal.loop-literal-preserved
+loop-literal-preserved c =
+    let s = c.in-Some.ensures.steps in
+    (s.0 ∙ c.loop-literal.invariant.0, rw c.from-k.ensures (number_on c.loop-literal.invariant.1 _ _ s.1.0 (s.1.1 ∙ c.loop-literal.invariant.0) _ c.holds_in.ensures).1)
 
 pub returns : goal.returns
-returns c = search number_end
+returns c = let s = c.in-None.ensures.steps in number_end c.loop-literal.invariant.1 (omega (arith, s.1.0, c.loop-literal.invariant.0))

@@ -1,13 +1,7 @@
--- `reducing::counts::number` meets its contract. The invariant counts the literals passed (NumberAt).
-use Prim.Native.Nat.{◌-◌}
-use lib.ListN.{length}
-use Rattle.meaning.specs.Rules.{holds}
-use Rattle.literals.proofs.laws.Places.{Left}
-use Rattle.literals.proofs.laws.Number.{NumberAt}
+-- `reducing::counts::number` meets its contract. The invariant counts the literals passed (NumberFrom).
+use Rattle.std.proofs.Common.{◌≡◌}
+use Rattle.reducing.proofs.laws.Passed.{NumberFrom}
 use Rattle.reducing.proofs.counts.number.Given as goal
 
-abbrev pub invariant-loop-j : goal.invariant-loop-j
-invariant-loop-j l = NumberAt (λ c. holds c l.row) l.bytes 0 l.count l.k l.p l.j × Left (length l.row) l.bytes l.count l.p l.j
-
-abbrev pub decreases-loop-j : goal.decreases-loop-j
-decreases-loop-j l = l.count - l.j
+abbrev pub invariant-loop-literal : goal.invariant-loop-literal
+invariant-loop-literal l = (l.literal-iterator.size ≡ 3) × NumberFrom l.literals l.literal-iterator.rest.now l.row l.k

@@ -1,12 +1,10 @@
--- `reducing::counts::spare` meets its contract. The invariant: no row passed has the literal as its only one (SpareAt).
-use Prim.Native.Nat.{◌-◌}
-use lib.ListN.{length}
+-- `reducing::counts::spare` meets its contract. The invariant: no row passed has the literal as its only one (SpareFrom).
+use Rattle.std.proofs.Common.{◌≡◌}
 use Rattle.meaning.specs.Bytes.{literal_at}
-use Rattle.reducing.proofs.laws.Counted.{SpareAt}
+use Rattle.reducing.proofs.laws.Counted.{SpareFrom}
 use Rattle.reducing.proofs.counts.spare.Given as goal
 
-abbrev pub invariant-loop-at : goal.invariant-loop-at
-invariant-loop-at l = SpareAt (literal_at l.bytes l.p) l.l l.table l.counts l.k l.at
-
-abbrev pub decreases-loop-at : goal.decreases-loop-at
-decreases-loop-at l = length l.table - l.at
+abbrev pub invariant-loop-row : goal.invariant-loop-row
+invariant-loop-row l =
+    (goal.iterator-loop-row).can_next l.row-iterator × (goal.iterator-loop-row).is_finite l.row-iterator ×
+    (l.row-iterator.a.size ≡ l.l) × SpareFrom (literal_at l.literal 0) l.l l.table l.row-iterator.a.rest.now l.counts l.row-iterator.b.rest.now

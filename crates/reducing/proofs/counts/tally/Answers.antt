@@ -1,20 +1,18 @@
--- `reducing::counts::tally` meets its contract. The invariant: the numbers before the row are written (ChangeAt).
-use borrow.Author.Rules.{rules}
-use Rattle.reducing.proofs.laws.Pass.{part_asked}
-use Rattle.reducing.proofs.laws.Counted.{change_start, change_turn, change_end, pass_room}
+-- `reducing::counts::tally` meets its contract. The invariant: the numbers of the rows passed are written (ChangeFrom).
+use Rattle.std.proofs.Common.{rules, arith, ◌∙◌}
+use Rattle.reducing.proofs.laws.Rows.{rows_on, rows_over}
+use Rattle.reducing.proofs.laws.Counted.{change_room, change_turn, change_end}
 use Rattle.reducing.proofs.counts.tally.Goals as goal
 
-pub loop-at-init : goal.loop-at-init
-loop-at-init c = search change_start
-
-pub number-requires : goal.number-requires
-number-requires c = search (part_asked, rules)
-
 pub bounds-counts-k : goal.bounds-counts-k
-bounds-counts-k c = search pass_room
+bounds-counts-k c =
+    let s = c.in-Some.ensures.steps in
+    rw s.1 (change_room c.loop-k.invariant.3 (rows_on _ _ c.requires.0 s.0.1.0 (s.0.1.1 ∙ c.loop-k.invariant.2)))
 
-pub loop-at-preserved : goal.loop-at-preserved
-loop-at-preserved c = search change_turn
+pub loop-k-preserved : goal.loop-k-preserved
+loop-k-preserved c =
+    let s = c.in-Some.ensures.steps in
+    (search rules, search rules, s.0.0 ∙ c.loop-k.invariant.2, rw (s.1, s.2) (change_turn c.loop-k.invariant.3 (rows_on _ _ c.requires.0 s.0.1.0 (s.0.1.1 ∙ c.loop-k.invariant.2)) c.number.ensures))
 
 pub returns : goal.returns
-returns c = search change_end
+returns c = let s = c.in-None.ensures.steps in change_end c.loop-k.invariant.3 (rows_over _ (omega (arith, s.0.1.0, c.loop-k.invariant.2)))

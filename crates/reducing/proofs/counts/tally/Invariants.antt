@@ -1,13 +1,12 @@
--- `reducing::counts::tally` meets its contract. The invariant: the numbers before the row are written (ChangeAt).
-use Prim.Native.Nat.{◌-◌}
-use lib.ListN.{length}
-use Rattle.meaning.specs.Bytes.{literals_at}
+-- `reducing::counts::tally` meets its contract. The invariant: the numbers of the rows passed are written (ChangeFrom).
+use Rattle.std.proofs.Common.{◌≡◌}
+use Rattle.literals.specs.Inner.{literals_in}
+use Rattle.meaning.specs.Rows.{rows_of}
 use Rattle.reducing.specs.Inner.{counting}
-use Rattle.reducing.proofs.laws.Counted.{ChangeAt}
+use Rattle.reducing.proofs.laws.Counted.{ChangeFrom}
 use Rattle.reducing.proofs.counts.tally.Given as goal
 
-abbrev pub invariant-loop-at : goal.invariant-loop-at
-invariant-loop-at l = ChangeAt (counting (literals_at l.bytes 0 l.count)) l.l l.table l.initial.counts l.counts l.k l.at
-
-abbrev pub decreases-loop-at : goal.decreases-loop-at
-decreases-loop-at l = length l.table - l.at
+abbrev pub invariant-loop-k : goal.invariant-loop-k
+invariant-loop-k l =
+    (goal.iterator-loop-k).can_next l.k-iterator × (goal.iterator-loop-k).is_finite l.k-iterator ×
+    (l.k-iterator.iter.size ≡ l.l) × ChangeFrom (counting (literals_in l.literals)) (rows_of l.l l.table) (rows_of l.l l.k-iterator.iter.rest.now) l.initial.counts l.counts l.k-iterator.count

@@ -1,21 +1,49 @@
--- `reducing::counts::trim` meets its contract. The invariant: what stays of the literals passed is in hand, and the numbers are those of what is left (TrimAt).
-use Rattle.literals.proofs.laws.Places.{at_fits, left_known}
-use Rattle.reducing.proofs.laws.Known.{sane_asked, sign_at}
-use Rattle.reducing.proofs.laws.Counted.{trim_start, trim_room, trim_on, trim_end}
-use borrow.Author.Rules.{rules}
+-- `reducing::counts::trim` meets its contract. The invariant: what stays of the literals passed is kept, and the numbers are those of what is left (TrimFrom).
+use Rattle.std.proofs.Common.{refl, arith, sym, ◌∙◌}
+use Rattle.reducing.proofs.laws.Written.{rule_back, encoded_length}
+use Rattle.reducing.proofs.laws.Trim.{left_known, left_keeps, trim_start, trim_spared, trim_kept, trim_end}
 use Rattle.reducing.proofs.counts.trim.Goals as goal
 
 pub tally-requires : goal.tally-requires
-tally-requires c = search (sane_asked, rules)
+tally-requires c =
+    let e = c.literals-literals.ensures.bytes in
+    (c.requires.l_low, c.requires.rows, rw e (omega (arith, encoded_length c.args.h.now, c.literals-literals.ensures.few)), rw (rule_back e) c.requires.known)
 
-pub loop-j-init : goal.loop-j-init
-loop-j-init c = search (trim_start, sane_asked, rules)
+pub loop-literal-init : goal.loop-literal-init
+loop-literal-init c =
+    rw (c.into_iter-literal-iterator.ensures.into_iter_gives, c.chunks_exact-literal-items.ensures.rest, c.empty-kept.ensures)
+    (c.chunks_exact-literal-items.ensures.size, trim_start c.literals-literals.ensures.bytes c.requires.known c.literals-literals.ensures.few c.requires.rows _ refl c.tally.ensures)
 
-pub settle-out-requires : goal.settle-out-requires
-settle-out-requires c = (search rules, search trim_room, search rules, search rules, search rules, search at_fits, search left_known, search sign_at)
+pub spare-requires : goal.spare-requires
+spare-requires c =
+    let s = c.in-Some.ensures.steps in
+    let m = c.loop-literal.invariant.1 in
+    let three = s.1.1 ∙ c.loop-literal.invariant.0 in
+    (c.requires.l_low, rw m.long c.requires.rows, omega (arith, three), left_known m.left _ _ s.1.0 three)
 
-pub loop-j-preserved : goal.loop-j-preserved
-loop-j-preserved c = search (trim_on, rules)
+pub lower-requires : goal.lower-requires
+lower-requires c =
+    let s = c.in-Some.ensures.steps in
+    let m = c.loop-literal.invariant.1 in
+    let three = s.1.1 ∙ c.loop-literal.invariant.0 in
+    (c.requires.l_low, rw m.long c.requires.rows, omega (arith, three), left_known m.left _ _ s.1.0 three)
+
+pub loop-literal-preserved-then-spare : goal.loop-literal-preserved-then-spare
+loop-literal-preserved-then-spare c =
+    let s = c.in-Some.ensures.steps in
+    let size = c.loop-literal.invariant.0 in
+    (s.0 ∙ size, trim_spared c.loop-literal.invariant.1 _ _ s.1.0 (s.1.1 ∙ size) c.requires.rows (sym c.if-spare.true ∙ c.spare.ensures) c.lower.ensures)
+
+pub keep-requires : goal.keep-requires
+keep-requires c =
+    let s = c.in-Some.ensures.steps in
+    left_keeps c.loop-literal.invariant.1.left _ _ s.1.0 (s.1.1 ∙ c.loop-literal.invariant.0)
+
+pub loop-literal-preserved : goal.loop-literal-preserved
+loop-literal-preserved c =
+    let s = c.in-Some.ensures.steps in
+    let size = c.loop-literal.invariant.0 in
+    (s.0 ∙ size, trim_kept c.loop-literal.invariant.1 _ _ s.1.0 (s.1.1 ∙ size) (sym c.if-spare.false ∙ c.spare.ensures) c.keep.ensures)
 
 pub returns : goal.returns
-returns c = search trim_end
+returns c = let s = c.in-None.ensures.steps in trim_end c.loop-literal.invariant.1 (omega (arith, s.1.0, c.loop-literal.invariant.0))

@@ -1,11 +1,8 @@
--- `reducing::counts::trim` meets its contract. The invariant: what stays of the literals passed is in hand, and the numbers are those of what is left (TrimAt).
-use Prim.Native.Nat.{◌-◌}
+-- `reducing::counts::trim` meets its contract. The invariant: what stays of the literals passed is kept, and the numbers are those of what is left (TrimFrom).
+use Rattle.std.proofs.Common.{◌≡◌}
 use Rattle.meaning.specs.Rows.{rows_of}
-use Rattle.reducing.proofs.laws.Counted.{TrimAt}
+use Rattle.reducing.proofs.laws.Trim.{TrimFrom}
 use Rattle.reducing.proofs.counts.trim.Given as goal
 
-abbrev pub invariant-loop-j : goal.invariant-loop-j
-invariant-loop-j l = TrimAt (rows_of l.l l.table) l.l l.bytes l.count l.counts l.out l.p l.j
-
-abbrev pub decreases-loop-j : goal.decreases-loop-j
-decreases-loop-j l = l.count - l.j
+abbrev pub invariant-loop-literal : goal.invariant-loop-literal
+invariant-loop-literal l = (l.literal-iterator.size ≡ 3) × TrimFrom (rows_of l.l l.table) l.l l.h l.literal-iterator.rest.now l.counts l.kept

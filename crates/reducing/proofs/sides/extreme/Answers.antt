@@ -1,17 +1,19 @@
--- `reducing::sides::extreme` meets its contract. The invariant: the rows before the place are combined (ExtremeAt).
-use borrow.Author.Rules.{rules}
-use Rattle.reducing.proofs.laws.Pass.{part_few, part_asked}
-use Rattle.reducing.proofs.laws.Joined.{extreme_start, extreme_on, extreme_end}
+-- `reducing::sides::extreme` meets its contract. The invariant: the rows passed are combined (ExtremeFrom).
+use Rattle.std.proofs.Common.{arith, sym, ◌∙◌}
+use Rattle.reducing.proofs.laws.Rows.{rows_on, rows_over}
+use Rattle.reducing.proofs.laws.Joined.{extreme_met, extreme_on, extreme_end}
 use Rattle.reducing.proofs.sides.extreme.Goals as goal
 
-pub loop-at-init : goal.loop-at-init
-loop-at-init c = search extreme_start
+pub loop-row-preserved-then-not-met : goal.loop-row-preserved-then-not-met
+loop-row-preserved-then-not-met c =
+    let s = c.in-Some.ensures.steps in
+    let long = s.1.1 ∙ c.loop-row.invariant.0 in
+    (s.0 ∙ c.loop-row.invariant.0, extreme_on c.loop-row.invariant.1 _ (rows_on _ _ c.requires.0 s.1.0 long) _ (sym c.if-not-met.true ∙ c.met.ensures) (rw long at c.join-combined.ensures))
 
-pub pass-e-requires : goal.pass-e-requires
-pass-e-requires c = search (part_few, part_asked, rules)
-
-pub loop-at-preserved : goal.loop-at-preserved
-loop-at-preserved c = search extreme_on
+pub loop-row-preserved : goal.loop-row-preserved
+loop-row-preserved c =
+    let s = c.in-Some.ensures.steps in
+    (s.0 ∙ c.loop-row.invariant.0, extreme_met c.loop-row.invariant.1 _ (rows_on _ _ c.requires.0 s.1.0 (s.1.1 ∙ c.loop-row.invariant.0)) (sym c.if-not-met.false ∙ c.met.ensures))
 
 pub returns : goal.returns
-returns c = search extreme_end
+returns c = let s = c.in-None.ensures.steps in extreme_end c.loop-row.invariant.1 (rows_over _ (omega (arith, s.1.0, c.loop-row.invariant.0)))

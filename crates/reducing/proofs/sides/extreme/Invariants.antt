@@ -1,13 +1,9 @@
--- `reducing::sides::extreme` meets its contract. The invariant: the rows before the place are combined (ExtremeAt).
-use Prim.Native.Nat.{◌-◌}
-use lib.ListN.{length}
-use Rattle.meaning.specs.Bytes.{literals_at}
-use Rattle.meaning.specs.Inner.{side_of}
-use Rattle.reducing.proofs.laws.Joined.{ExtremeAt}
+-- `reducing::sides::extreme` meets its contract. The invariant: the rows passed are combined (ExtremeFrom).
+use Rattle.std.proofs.Common.{◌≡◌}
+use Rattle.literals.specs.Inner.{literals_in}
+use Rattle.literals.specs.Kinds.{side_of}
+use Rattle.reducing.proofs.laws.Joined.{ExtremeFrom}
 use Rattle.reducing.proofs.sides.extreme.Given as goal
 
-abbrev pub invariant-loop-at : goal.invariant-loop-at
-invariant-loop-at l = ExtremeAt (side_of l.high) (literals_at l.bytes 0 l.count) l.l l.table l.e l.at
-
-abbrev pub decreases-loop-at : goal.decreases-loop-at
-decreases-loop-at l = length l.table - l.at
+abbrev pub invariant-loop-row : goal.invariant-loop-row
+invariant-loop-row l = (l.row-iterator.size ≡ l.l) × ExtremeFrom (side_of l.side) (literals_in l.literals) l.l l.table l.row-iterator.rest.now l.combined

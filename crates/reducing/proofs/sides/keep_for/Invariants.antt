@@ -1,11 +1,9 @@
--- `reducing::sides::keep_for` meets its contract. The invariant: what is kept of the literals passed is in hand (KeptAt).
-use Prim.Native.Nat.{◌-◌}
-use Rattle.meaning.specs.Inner.{side_of}
-use Rattle.reducing.proofs.laws.Chosen.{KeptAt}
+-- `reducing::sides::keep_for` meets its contract. The invariant: what stays of the literals passed is kept (KeptFrom).
+use Rattle.std.proofs.Common.{◌≡◌}
+use Rattle.literals.specs.Kinds.{side_of}
+use Rattle.reducing.specs.Inner.{row_in}
+use Rattle.reducing.proofs.laws.Kept.{KeptFrom}
 use Rattle.reducing.proofs.sides.keep_for.Given as goal
 
-abbrev pub invariant-loop-j : goal.invariant-loop-j
-invariant-loop-j l = KeptAt (side_of l.high) l.row l.lent l.initial.found l.count l.found l.out l.p l.j
-
-abbrev pub decreases-loop-j : goal.decreases-loop-j
-decreases-loop-j l = l.count - l.j
+abbrev pub invariant-loop-literal : goal.invariant-loop-literal
+invariant-loop-literal l = (l.literal-iterator.size ≡ 3) × KeptFrom (side_of l.side) l.l l.h (row_in l.l l.fn.combined) l.literal-iterator.rest.now l.kept (row_in l.l l.sought)

@@ -1,15 +1,16 @@
--- Each way out is a lemma of Closures.
-use Rattle.tables.proofs.laws.Closures.{open_general, open_horn, open_dual, open_bijunctive}
+-- The family says which rows are asked for (open_by).
+use Rattle.std.proofs.Common.{refl}
+use Rattle.tables.proofs.laws.Closures.{open_by}
 use Rattle.tables.proofs.closures.open_rows.Goals as goal
 
-pub returns-then-family-eq0 : goal.returns-then-family-eq0
-returns-then-family-eq0 c = search open_general
+pub returns-in-General : goal.returns-in-General
+returns-in-General c = open_by _ _ _ _ _ c.of.ensures c.in-General.is refl
 
-pub returns-then-family-eq1 : goal.returns-then-family-eq1
-returns-then-family-eq1 c = search open_horn
+pub returns-in-Horn : goal.returns-in-Horn
+returns-in-Horn c = open_by _ _ _ _ _ c.of.ensures c.in-Horn.is c.open_pair.ensures
 
-pub returns-then-family-eq2 : goal.returns-then-family-eq2
-returns-then-family-eq2 c = search open_dual
+pub returns-in-Dual : goal.returns-in-Dual
+returns-in-Dual c = open_by _ _ _ _ _ c.of.ensures c.in-Dual.is c.open_pair-in-Dual.ensures
 
-pub returns : goal.returns
-returns c = search open_bijunctive
+pub returns-in-Bijunctive : goal.returns-in-Bijunctive
+returns-in-Bijunctive c = open_by _ _ _ _ _ c.of.ensures c.in-Bijunctive.is c.open_triple.ensures

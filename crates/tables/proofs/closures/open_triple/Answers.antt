@@ -1,22 +1,9 @@
--- What is left of the search gives the whole (Looking).
-use native.Mathlib.Omega.{arith}
-use Rattle.tables.proofs.laws.Combining.{is_known}
-use Rattle.tables.proofs.laws.Closures.{look_end, look_past, look_answer, all_look}
-use Rattle.tables.proofs.Answers.{other}
-use borrow.Author.Rules.{rules}
+-- What is first found from row 0 on (found_mapped).
+use Rattle.std.proofs.Common.{rules, ◌∙◌}
+use Rattle.tables.specs.Inner.{triples_after}
+use Rattle.tables.specs.Rows.{rows_in}
+use Rattle.tables.proofs.laws.Closures.{found_mapped, triples_are}
 use Rattle.tables.proofs.closures.open_triple.Goals as goal
 
-pub loop-a-init : goal.loop-a-init
-loop-a-init c = search all_look
-
-pub triples_after-found-requires : goal.triples_after-found-requires
-triples_after-found-requires c = search (is_known, rules)
-
-pub loop-a-preserved : goal.loop-a-preserved
-loop-a-preserved c = search (look_past, arith)
-
-pub returns-in_default : goal.returns-in_default
-returns-in_default c = search (look_answer, other, arith)
-
 pub returns : goal.returns
-returns c = search (look_end, arith)
+returns c = found_mapped (triples_after (rows_in c.args.rows)) (λ x o q k. search rules) _ c.find_map.result c.find_map.ensures.runs ∙ rw c.count.ensures (triples_are _)

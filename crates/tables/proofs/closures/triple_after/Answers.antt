@@ -1,21 +1,17 @@
--- What is left of the search gives the whole (Looking).
-use native.Mathlib.Omega.{arith}
-use Rattle.tables.proofs.laws.Combining.{is_known}
-use Rattle.tables.proofs.laws.Closures.{look_end, look_on, look_found, triple_look, kept, missed}
-use borrow.Author.Rules.{rules}
+-- What is first found from row b + 1 on (found_after).
+use Rattle.std.proofs.Common.{rules, refl, ◌∙◌}
+use Rattle.std.proofs.lemmas.Iterator.{first_from_Range}
+use Rattle.meaning.specs.Rows.{is_row}
+use Rattle.tables.specs.Inner.{median_of}
+use Rattle.tables.specs.Rows.{rows_in}
+use Rattle.tables.specs.declared.Open.TheVariants.{Triple}
+use Rattle.tables.proofs.laws.Closures.{found_after, triple_is}
 use Rattle.tables.proofs.closures.triple_after.Goals as goal
 
-pub loop-c-init : goal.loop-c-init
-loop-c-init c = search triple_look
-
-pub median_is_row-known-requires : goal.median_is_row-known-requires
-median_is_row-known-requires c = search (is_known, rules)
-
-pub loop-c-preserved : goal.loop-c-preserved
-loop-c-preserved c = search (look_on, kept, arith)
-
-pub returns-else-known : goal.returns-else-known
-returns-else-known c = search (look_found, missed, arith)
-
 pub returns : goal.returns
-returns c = search (look_end, arith)
+returns c =
+    let rows = rows_in c.args.rows in
+    let a = c.args.a in
+    let b = c.args.b in
+    found_after (λ j. is_row (median_of rows a b j) rows) _ (λ j. Triple a b j) (λ j. refl) _ _ c.find.result
+    (first_from_Range _ _ _ c.find.result _ _ c.find.ensures.ran (λ x q k. search rules) (λ x q k. search rules)) c.map.result (search rules) ∙ rw c.count-count.ensures (triple_is rows a b)

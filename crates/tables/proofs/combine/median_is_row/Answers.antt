@@ -1,12 +1,9 @@
 -- The part of the array that is looked up is the combined row.
-use Rattle.tables.proofs.laws.Combining.{median_length, cut_length, cut_rising, cut_row}
+use Rattle.std.proofs.Common.{rules}
+use Rattle.tables.proofs.laws.Combining.{median_found}
 use Rattle.tables.proofs.combine.median_is_row.Goals as goal
 
-pub slice_bounds-x-end : goal.slice_bounds-x-end
-slice_bounds-x-end c = search (cut_length, median_length)
-
-pub is_row-requires : goal.is_row-requires
-is_row-requires c = search (cut_rising, median_length)
-
 pub returns : goal.returns
-returns c = search (cut_row, median_length)
+returns c =
+    median_found _ _ c.args.rows.ready c.filled-x.result (search rules) _ _ c.requires.0 c.requires.1 _ c.requires.2
+    (λ k h. rw (← c.row-a.ensures.0, ← c.row-b.ensures.0, ← c.row-c.ensures.0) (let f = c.filled-x.ensures k h in search rules)) _ c.has.ensures

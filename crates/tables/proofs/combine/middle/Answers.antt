@@ -1,6 +1,8 @@
--- The middle of three is picked four times (middle_picked).
-use Rattle.tables.proofs.laws.Combining.{middle_picked}
+-- The code says what the middle of three values is.
+use Rattle.std.proofs.Common.{rules}
+use Rattle.meaning.specs.Families.{mid}
 use Rattle.tables.proofs.combine.middle.Goals as goal
 
 pub returns : goal.returns
-returns c = search middle_picked
+unfolding mid
+returns c = search rules

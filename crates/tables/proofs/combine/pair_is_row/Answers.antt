@@ -1,12 +1,9 @@
 -- The part of the array that is looked up is the combined row.
-use Rattle.tables.proofs.laws.Combining.{pair_length, cut_length, cut_rising, cut_row}
+use Rattle.std.proofs.Common.{rules}
+use Rattle.tables.proofs.laws.Combining.{pair_found}
 use Rattle.tables.proofs.combine.pair_is_row.Goals as goal
 
-pub slice_bounds-x-end : goal.slice_bounds-x-end
-slice_bounds-x-end c = search (cut_length, pair_length)
-
-pub is_row-requires : goal.is_row-requires
-is_row-requires c = search (cut_rising, pair_length)
-
 pub returns : goal.returns
-returns c = search (cut_row, pair_length)
+returns c =
+    pair_found _ _ c.args.rows.ready c.filled-x.result (search rules) _ _ c.requires.0 c.requires.1 _
+    (λ k h. rw (← c.row-a.ensures.0, ← c.row-b.ensures.0) (let f = c.filled-x.ensures k h in search rules)) _ c.has.ensures

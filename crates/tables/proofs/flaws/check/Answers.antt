@@ -6,5 +6,5 @@ use Rattle.tables.proofs.flaws.check.Goals as goal
 pub check_alike-requires : goal.check_alike-requires
 check_alike-requires c = search limits_known
 
-pub returns : goal.returns
-returns c = search limits_broken
+pub returns-else-limits : goal.returns-else-limits
+returns-else-limits c = search limits_broken

@@ -1,42 +1,43 @@
--- The invariant: k rows are passed, and what is left of them decides (Checking). Each way through the loop is a lemma of Checking.
-use native.Mathlib.Omega.{arith}
-use lib.ListN.{length}
-use Rattle.tables.specs.Inner.{Stands}
-use Rattle.tables.proofs.laws.Checking.{checking_start, checking_stands, checking_whole, checking_high, checking_on, checking_sound, checking_low}
+-- The invariant: some rows are passed, and what is left of them decides (Checking). Each way through the loop is a lemma of Checking.
+use Rattle.std.proofs.Common.{rules, arith, refl, ◌≡◌, ◌∙◌, length}
+use Rattle.std.specs.Prelude.{Err}
+use Rattle.tables.proofs.laws.Checking.{checking_start, checking_high, checking_on, checking_end, low_kept, low_noted, low_stays}
 use Rattle.tables.proofs.flaws.check_rows.Goals as goal
-use Rattle.tables.proofs.flaws.check_rows.Goals.{In-loop-at}
+use Rattle.tables.proofs.flaws.check_rows.Goals.{then-is_none+then-not-rises, else-is_none, else-is_none-via-then-is_none+else-not-rises, else-is_none-via-else-is_none}
 
--- within the loop, row k stands at `at`
-here :
-    (c : In-loop-at) → Stands c.args.table.now (length c.args.sizes.now) c.loop-at.k c.loop-at.at
-here c = checking_stands _ _ _ _ _ c.loop-at.invariant c.loop-at-test.true
+pub loop-k-init : goal.loop-k-init
+loop-k-init c = (search rules, search rules, search rules, checking_start _ _ c.requires.0 c.requires.1 _ _ (search rules) (search rules))
 
-pub loop-at-init : goal.loop-at-init
-loop-at-init c = search checking_start
+pub returns-in_err-check_values : goal.returns-in_err-check_values
+returns-in_err-check_values c =
+    let s = c.in-Some.ensures.steps in
+    let e : c.from_residual.result ≡ Err c.in_err-check_values.field-0.0 = search rules in
+    e ∙ checking_high _ _ c.loop-k.invariant.3 _ _ s.0.1.0 (s.0.1.1 ∙ c.loop-k.invariant.2) _ (rw s.1 at c.check_values.ensures) _ c.in_err-check_values.was
 
-pub passed-place-requires : goal.passed-place-requires
-passed-place-requires c = (checking_whole _ _ _ _ _ c.loop-at.invariant, (here (goal.at.passed-place-requires c).In-loop-at).ends)
+pub loop-k-preserved : goal.loop-k-preserved
+loop-k-preserved c =
+    let s = c.in-Some.ensures.steps in
+    let m = c.loop-k.invariant.3 in
+    let long : length c.in-Some.row.now ≡ length c.args.sizes.now = s.0.1.1 ∙ c.loop-k.invariant.2 in
+    let on = checking_on _ _ m _ _ s.0.1.0 long _ (rw s.1 at c.check_values.ensures) c.in_ok-check_values.was in (
+      search rules,
+      search rules,
+      s.0.0 ∙ c.loop-k.invariant.2,
+      rw s.2 (elim c.if-is_none.branch [
+        | then-is_none+then-not-rises w ↦ rw (w.low-is, s.1) (on _ (low_noted _ _ m _ _ s.0.1.0 long _ w.rises.ensures c.is_none.ensures w.if-is_none.true w.if-not-rises.true) c.in-Some.row refl)
+        | else-is_none w ↦ elim w.else-is_none.branch [
+          | else-is_none-via-then-is_none+else-not-rises v ↦ rw w.low-is (on _ (low_kept _ _ m _ _ s.0.1.0 long _ v.rises.ensures v.if-not-rises.false) c.in-Some.row refl)
+          | else-is_none-via-else-is_none v ↦ rw w.low-is (on _ (low_stays _ _ m _ _ s.0.1.0 long c.is_none.ensures v.if-is_none.false) c.in-Some.row refl)
+        ]
+      ]),
+    )
 
-pub overflow_add-end : goal.overflow_add-end
-overflow_add-end c = omega (arith, (here (goal.at.overflow_add-end c).In-loop-at).ends)
+pub returns-in-Some-low : goal.returns-in-Some-low
+returns-in-Some-low c =
+    let s = c.in-None.ensures.steps in
+    rw c.in-Some-low.is at (checking_end _ _ c.loop-k.invariant.3 (omega (arith, s.0.1.0, c.loop-k.invariant.2)))
 
-pub returns-then-place-end : goal.returns-then-place-end
-returns-then-place-end c = search (checking_high, arith)
-
-pub low_next-low-requires : goal.low_next-low-requires
-low_next-low-requires c = search checking_stands
-
-pub overflow_add-k : goal.overflow_add-k
-overflow_add-k c = omega (arith, (here (goal.at.overflow_add-k c).In-loop-at).few)
-
-pub loop-at-smaller : goal.loop-at-smaller
-loop-at-smaller c = omega (arith, (here (goal.at.loop-at-smaller c).In-loop-at).wide)
-
-pub loop-at-preserved : goal.loop-at-preserved
-loop-at-preserved c = search (checking_on, arith)
-
-pub returns-then-low-eq0 : goal.returns-then-low-eq0
-returns-then-low-eq0 c = search (checking_sound, arith)
-
-pub returns : goal.returns
-returns c = search (checking_low, arith)
+pub returns-in-None-low : goal.returns-in-None-low
+returns-in-None-low c =
+    let s = c.in-None.ensures.steps in
+    rw c.in-None-low.is at (checking_end _ _ c.loop-k.invariant.3 (omega (arith, s.0.1.0, c.loop-k.invariant.2)))

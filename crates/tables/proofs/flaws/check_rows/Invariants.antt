@@ -1,11 +1,9 @@
--- The invariant: k rows are passed, and what is left of them decides (Checking). Each way through the loop is a lemma of Checking.
-use Prim.Native.Nat.{◌-◌}
-use lib.ListN.{length}
+-- The invariant: some rows are passed, and what is left of them decides (Checking). Each way through the loop is a lemma of Checking.
+use Rattle.std.proofs.Common.{◌≡◌, length}
 use Rattle.tables.proofs.laws.Checking.{Checking}
 use Rattle.tables.proofs.flaws.check_rows.Given as goal
 
-abbrev pub invariant-loop-at : goal.invariant-loop-at
-invariant-loop-at l = Checking l.sizes l.table l.low l.k l.at
-
-abbrev pub decreases-loop-at : goal.decreases-loop-at
-decreases-loop-at l = length l.table - l.at
+abbrev pub invariant-loop-k : goal.invariant-loop-k
+invariant-loop-k l =
+    (goal.iterator-loop-k).can_next l.k-iterator × (goal.iterator-loop-k).is_finite l.k-iterator ×
+    (l.k-iterator.iter.size ≡ length l.sizes) × Checking l.sizes l.table l.low l.last l.k-iterator.count l.k-iterator.iter.rest.now

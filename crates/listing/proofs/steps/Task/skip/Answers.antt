@@ -1,0 +1,8 @@
+use native.Mathlib.Omega.{arith}
+use Rattle.listing.proofs.laws.Turns.{skipping_on}
+use Rattle.listing.proofs.steps.Task.skip.Goals as goal
+
+pub loop-v-preserved : goal.loop-v-preserved
+loop-v-preserved c =
+    let p = c.requires in
+    skipping_on _ _ _ _ _ c.loop-v.invariant p.0 (omega (arith, p.1, p.2.short)) c.loop-v-test.true (p.2.few _ p.1) c.if-self-on.false c.if-self-walk.false _ p.3 _ c.from.ensures _ c.lacks.ensures c.if-not-lacks.false

@@ -1,6 +1,0 @@
--- `makers::making::rules` meets its contract: no rows give the one rule without literals (`rows_none`).
-use Rattle.makers.proofs.laws.AllRows.{rows_none}
-use Rattle.makers.proofs.making.rules.Goals as goal
-
-pub returns-then-none : goal.returns-then-none
-returns-then-none c = search rows_none
