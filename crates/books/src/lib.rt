@@ -29,7 +29,7 @@ pub enum Fault {
     Trailing(usize),
 }
 
-// The head of a book: n values a setting, l settings, the family, and the number of rules.
+// The head of a book: n values a setting, l settings, the number of the family as the book has it, and the number of rules.
 #[derive(Clone, Copy, Debug, PartialEq, Eq)]
 pub struct Head {
     pub n: usize,

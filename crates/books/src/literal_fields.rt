@@ -7,7 +7,8 @@ use crate::Fault;
 use crate::fields::field;
 use crate::rules::Reader;
 
-// The number that a bound of sign g stays below, on a setting of n values.
+// The number that a bound of sign g stays below, on a setting of n values. The sign is here the number that its field gave, as in
+// `top_of` and in a key.
 #[tactic(auto, unfolding(meaning::specs::Rules::top_of))]
 fn top(n: u8, g: usize) -> usize
     requires { 0 < n }

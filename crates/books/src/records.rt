@@ -18,7 +18,7 @@ fn put(room: &mut [u8], at: usize, bytes: &[u8]) -> usize
     next
 }
 
-// The head, at the start of the room.
+// The head, at the start of the room. The family is its number, which is what is written.
 #[tactic(auto, using(crate::proofs::laws::Records::puts_head))]
 pub fn put_head(room: &mut [u8], n: usize, l: usize, family: usize, rules: usize) -> usize
     requires { (n < 256) × (l < 256) × (family < 256) × (rules < 65536) }

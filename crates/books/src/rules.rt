@@ -47,7 +47,7 @@ fn idle(book: &[u8], start: usize, c: usize) -> bool
     false
 }
 
-// Is the rule of the c literals from `start` on in the family?
+// Is the rule of the c literals from `start` on in the family of this number, which the head has?
 fn kept(book: &[u8], start: usize, c: usize, family: usize) -> bool
     requires { start + 3 * c ≤ length book.now }
     ensures { result ≡ in_family family (literals_at book.now start c) }

@@ -1,5 +1,5 @@
 // The lines that are printed: the head of a book, a rule, a refusal; and how a line is written.
-use rulebook::{Flaw, Open, Unmade};
+use rulebook::{Flaw, Head, Open, Unmade};
 use std::fmt::Display;
 use std::io::Write;
 use std::{fmt, io};
@@ -16,22 +16,19 @@ pub fn write_line<W: Write, L: Display>(out: &mut W, line: &L) -> io::Result<()>
     out.write_all(&space[..end])
 }
 
-// The head of a book: n, l, family and number of rules.
+// A book, by its head.
 #[derive(Clone, Copy)]
-pub struct Head {
-    pub n: usize,
-    pub l: usize,
-    pub family: usize,
-    pub rules: usize,
-}
+pub struct Book(pub Head);
 
-impl fmt::Display for Head {
+impl fmt::Display for Book {
     fn fmt<W: fmt::Write>(&self, f: &mut fmt::Formatter<W>) -> fmt::Result {
-        write!(
-            f,
-            "book {} {} {} {}",
-            self.n, self.l, self.family, self.rules
-        )
+        let Head {
+            n,
+            l,
+            family,
+            rules,
+        } = self.0;
+        write!(f, "book {n} {l} {family} {rules}")
     }
 }
 

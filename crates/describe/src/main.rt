@@ -7,9 +7,9 @@ mod records;
 
 ghost use Rattle.std.specs.Prelude.{◌≤◌, length, IfOk};
 
-use lines::{Head, Refused, Rule, write_line};
+use lines::{Book, Refused, Rule, write_line};
 use records::Records;
-use rulebook::Made;
+use rulebook::{Head, Made};
 use std::io;
 use std::io::{Read, Write};
 
@@ -40,7 +40,7 @@ fn describe<W: Write>(input: &[u8], room: &mut [u8], out: &mut W) -> io::Result<
         family,
         rules,
     };
-    write_line(out, &head)?;
+    write_line(out, &Book(head))?;
     let records = room.get(HEAD..length).unwrap_or_default();
     for (number, literals) in Records(records).enumerate() {
         write_line(out, &Rule { number, literals })?;
@@ -48,7 +48,7 @@ fn describe<W: Write>(input: &[u8], room: &mut [u8], out: &mut W) -> io::Result<
     Ok(())
 }
 
-// Reads until the space is full or the input ends. Gives how many bytes.
+// Reads until the space is full or the input ends. Gives how many bytes. By hand, since std's `read_to_end` asks for memory.
 fn read_full<R: Read>(input: &mut R, space: &mut [u8]) -> io::Result<usize>
     ensures { IfOk result (λ got. got ≤ length space.new) }
 {

@@ -323,7 +323,7 @@ pub record Sorted (b : List ℕ) (rules : ℕ) (p s e : List ℕ) (at left : ℕ
 
 -- none is left: no step was made; or nothing is below the last prefix, and each of its values is the last of its setting
 unfoldable pub finished_of : Sizes → Walk → Bool
-finished_of ns w = eqb w.steps 0 || ((eqb w.last.len (length ns) || w.dead) && all_last ns (prefix_of w.last))
+finished_of ns w = eqb w.steps 0 || ((eqb w.last.len (length ns) || not (eqb w.dead 0)) && all_last ns (prefix_of w.last))
 
 -- k of the sizes, from setting i on
 abbrev pub part : Sizes → ℕ → ℕ → Sizes
@@ -350,8 +350,13 @@ module _ (d : Row → Bool) where
 abbrev pub S : Type 0
 S = Walk × List ℕ
 
+-- a mark in a walk: 1 for yes
+abbrev pub flag : Bool → ℕ
+flag true = 1
+flag false = 0
+
 abbrev pub walk_of : Cursor → Bool → ℕ → ℕ → Walk
-walk_of q d rows steps = record { last = q; dead = d; rows = rows; steps = steps }
+walk_of q d rows steps = record { last = q; dead = flag d; rows = rows; steps = steps }
 
 -- a visit of q, dead or not: one step; a live one of length l is written as a row
 abbrev pub move_of : ℕ → Bool → Cursor → S → S
@@ -380,7 +385,6 @@ module _ (d : Row → Bool) (l fit budget : ℕ) where
 
 pub record Ready (ns : Sizes) (room : List ℕ) (cur : Cursor) (levels fit : ℕ) : Type 0 where
   pub cells : fit * length ns ≤ length room
-  pub plain : Plain cur
   pub deep : cur.len + levels ≤ length ns
   pub limited : Sized ns
 
@@ -413,7 +417,7 @@ pub record Allows (d : Row → Bool) (x : Row) (set : ℕ) : Type 0 where
 
 -- the walk with its last prefix set, once the values from v up to below u are visited after cur
 abbrev pub behind_of : Walk → Cursor → ℕ → ℕ → Walk
-behind_of w cur v u = cond (eqb u v) w (walk_of (push_of cur (u - 1)) w.dead w.rows w.steps)
+behind_of w cur v u = cond (eqb u v) w (record { last = push_of cur (u - 1); dead = w.dead; rows = w.rows; steps = w.steps })
 
 module _ (d : Row → Bool) (ns : Sizes) (cur : Cursor) (fit budget : ℕ) where
   -- from the walk w at the value v to the walk r at u, with nothing left out

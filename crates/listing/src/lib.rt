@@ -4,6 +4,7 @@
 mod cursor;
 mod groups;
 mod paging;
+mod prefix;
 mod scan;
 mod sorting;
 mod start;

@@ -9,7 +9,7 @@ ghost use Rattle.listing.specs.declared.paging.Unlisted.TheVariants.{Faulty};
 ghost use Rattle.listing.specs.Pages.{P, beside, listed_in, page_in, page_of};
 
 use crate::cursor::{Cursor, cursor_ok};
-use crate::start::start;
+use crate::start::Request;
 use crate::steps::Walk;
 use books::Fault;
 
@@ -67,53 +67,42 @@ fn finished(sizes: &[u8], w: Walk) -> bool
         return true;
     }
     let q = w.last;
-    (q.len == sizes.len() || w.dead) && all_last(sizes, q)
+    (q.len == sizes.len() || w.dead != 0) && all_last(sizes, q)
 }
 
-// The page from a good cursor, with room for a row and a budget of a step: the last prefix visited, and what is shown.
-fn list(
-    book: &[u8],
-    rules: usize,
-    sizes: &[u8],
-    cursor: Cursor,
-    room: &mut [u8],
-    budget: usize,
-) -> (Cursor, Listed)
-    requires { Starts book.now rules sizes.now cursor room.old budget }
-    ensures { ◌≡◌ {A = P} (beside cursor (Ok result), room.new) (listed_in sizes.now (dead (rules_in book.now)) cursor budget room.old) }
-{
-    let fit = room.len() / sizes.len();
-    let w = start(book, rules, sizes, room, cursor, fit, budget);
-    let listed = Listed {
-        rows: w.rows,
-        steps: w.steps,
-        finished: finished(sizes, w),
-    };
-    (w.last, listed)
-}
+impl Request<'_> {
+    // The page from a good cursor, with room for a row and a budget of a step: the last prefix visited, and what is shown.
+    fn list(&self, room: &mut [u8]) -> (Cursor, Listed)
+        requires { Starts self.now.book.now self.now.rules self.now.sizes.now self.now.cursor room.old self.now.budget }
+        ensures { ◌≡◌ {A = P} (beside self.now.cursor (Ok result), room.new) (listed_in self.now.sizes.now (dead (rules_in self.now.book.now)) self.now.cursor self.now.budget room.old) }
+    {
+        let fit = room.len() / self.sizes.len();
+        let w = self.start(room, fit);
+        let listed = Listed {
+            rows: w.rows,
+            steps: w.steps,
+            finished: finished(self.sizes, w),
+        };
+        (w.last, listed)
+    }
 
-// The page over the sizes: a bad cursor, no room for a row, and a budget outside its limits are refused, in this order.
-fn page_in(
-    book: &[u8],
-    rules: usize,
-    sizes: &[u8],
-    cursor: Cursor,
-    room: &mut [u8],
-    budget: usize,
-) -> Result<(Cursor, Listed), Unlisted>
-    requires { Standard book.now rules sizes.now }
-    ensures { ◌≡◌ {A = P} (beside cursor result, room.new) (page_in sizes.now (dead (rules_in book.now)) cursor budget room.old) }
-{
-    if !cursor_ok(sizes, cursor) {
-        return Err(Unlisted::BadCursor);
+    // The page: a bad cursor, no room for a row, and a budget outside its limits are refused, in this order.
+    fn try_list(&self, room: &mut [u8]) -> Result<(Cursor, Listed), Unlisted>
+        requires { Standard self.now.book.now self.now.rules self.now.sizes.now }
+        ensures { ◌≡◌ {A = P} (beside self.now.cursor result, room.new) (page_in self.now.sizes.now (dead (rules_in self.now.book.now)) self.now.cursor self.now.budget room.old) }
+    {
+        if !cursor_ok(self.sizes, self.cursor) {
+            return Err(Unlisted::BadCursor);
+        }
+        if room.len() < self.sizes.len() {
+            return Err(Unlisted::NoRoom);
+        }
+        let budget = self.budget;
+        if budget == 0 || 65535 < budget {
+            return Err(Unlisted::BadBudget);
+        }
+        Ok(self.list(room))
     }
-    if room.len() < sizes.len() {
-        return Err(Unlisted::NoRoom);
-    }
-    if budget == 0 || 65535 < budget {
-        return Err(Unlisted::BadBudget);
-    }
-    Ok(list(book, rules, sizes, cursor, room, budget))
 }
 
 // The page of a book of edition 1, l settings of n values each; or why there is none.
@@ -127,7 +116,14 @@ fn try_page(
 {
     let head = books::read(book)?;
     let space = [head.n as u8; 16];
-    page_in(book, head.rules, &space[..head.l], cursor, room, budget)
+    let request = Request {
+        book,
+        rules: head.rules,
+        sizes: &space[..head.l],
+        cursor,
+        budget,
+    };
+    request.try_list(room)
 }
 
 // A page of a book: from the cursor on it visits the visited prefixes, writes the live ones of full length as rows into the room, and

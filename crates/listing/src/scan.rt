@@ -4,9 +4,9 @@ ghost use Rattle.literals.specs.Inner.{holds_by};
 ghost use Rattle.meaning.specs.Bytes.{end_at, rule_at, rules_at};
 ghost use Rattle.meaning.specs.Listing.{dead};
 ghost use Rattle.listing.specs.Cursors.{prefix_of};
-ghost use Rattle.listing.specs.Inner.{Plain, Stands, early_of, forbids, interval_of, Judges, AllStand, Passes, Trims, widen_of, Window, Scans};
+ghost use Rattle.listing.specs.Inner.{Stands, early_of, forbids, interval_of, Judges, AllStand, Passes, Trims, widen_of, Window, Scans};
 
-use crate::cursor::Cursor;
+use crate::prefix::Prefix;
 use crate::values::without;
 use literals::{holds, rule_end};
 
@@ -61,12 +61,12 @@ pub struct Scanned {
 
 // Of `count` literals from place p on, by setting ascending, those on the settings of the prefix. By place and not by pieces of three,
 // since the answer is a place.
-pub fn early(book: &[u8], p: usize, count: usize, cur: Cursor) -> Passed
-    requires { Plain cur × (p + 3 * count ≤ length book.now) }
-    ensures { result ≡ early_of book.now (prefix_of cur) p count }
+pub fn early(book: &[u8], p: usize, count: usize, cur: Prefix) -> Passed
+    requires { p + 3 * count ≤ length book.now }
+    ensures { result ≡ early_of book.now (prefix_of cur.cursor) p count }
 {
-    let len = cur.len;
-    let values = cur.values;
+    let len = cur.cursor.len;
+    let values = cur.cursor.values;
     for k in 0..count {
         let at = p + 3 * k;
         let i = usize::from(book[at]);
@@ -112,9 +112,9 @@ fn number(at: usize, q: usize) -> Option<u8> {
 
 // What the rule at place `at` asks below the prefix, which it does not make dead. Its last literal tells at once where it is met
 // already; a rule that goes on behind the next setting forbids nothing yet.
-pub fn judge(book: &[u8], at: usize, cur: Cursor) -> Judged
-    requires { Plain cur × Stands book.now at × (dead (rule_at book.now at ∷ []) (prefix_of cur) ≡ false) }
-    ensures { Judges book.now at (prefix_of cur) result }
+pub fn judge(book: &[u8], at: usize, cur: Prefix) -> Judged
+    requires { Stands book.now at × (dead (rule_at book.now at ∷ []) (prefix_of cur.cursor) ≡ false) }
+    ensures { Judges book.now at (prefix_of cur.cursor) result }
 {
     let none = Judged::forbids(0, 0);
     let count = usize::from(book[at + 2]);
@@ -122,7 +122,7 @@ pub fn judge(book: &[u8], at: usize, cur: Cursor) -> Judged
         return none;
     }
     let last = usize::from(book[at + 3 * count]);
-    if last < cur.len {
+    if last < cur.cursor.len {
         return none;
     }
     match early(book, at + 3, count, cur) {
@@ -130,7 +130,7 @@ pub fn judge(book: &[u8], at: usize, cur: Cursor) -> Judged
             hint: number(at, q),
             ..none
         },
-        Passed::Left { .. } if cur.len < last => Judged {
+        Passed::Left { .. } if cur.cursor.len < last => Judged {
             lasts: true,
             ..none
         },
@@ -158,9 +158,9 @@ fn widen(span: Option<Span>, lasts: bool, at: usize, i: usize) -> Option<Span>
 }
 
 // Scans `rules` rules from place `from` on, below the live prefix cur; the values outside `set` are forbidden already.
-pub fn scan(book: &[u8], from: usize, rules: usize, cur: Cursor, set: u64) -> Scanned
-    requires { Plain cur × Window book.now (dead (rules_at book.now from rules)) (prefix_of cur) from rules × (dead (rules_at book.now from rules) (prefix_of cur) ≡ false) }
-    ensures { Scans book.now (dead (rules_at book.now from rules)) (prefix_of cur) set result }
+pub fn scan(book: &[u8], from: usize, rules: usize, cur: Prefix, set: u64) -> Scanned
+    requires { Window book.now (dead (rules_at book.now from rules)) (prefix_of cur.cursor) from rules × (dead (rules_at book.now from rules) (prefix_of cur.cursor) ≡ false) }
+    ensures { Scans book.now (dead (rules_at book.now from rules)) (prefix_of cur.cursor) set result }
 {
     let mut allowed = set;
     let mut span = None;

@@ -5,9 +5,10 @@ ghost use Rattle.meaning.specs.Bytes.{rules_in};
 ghost use Rattle.meaning.specs.Listing.{dead};
 ghost use Rattle.books.specs.Inner.{put_at};
 ghost use Rattle.listing.specs.Cursors.{prefix_of};
-ghost use Rattle.listing.specs.Inner.{Plain, push_of, part, from_of, S, runs, Ready, Allows, behind_of, Skips, leaf_rows, leaf_room};
+ghost use Rattle.listing.specs.Inner.{push_of, part, from_of, S, runs, Ready, Allows, behind_of, Skips, leaf_rows, leaf_room};
 
 use crate::cursor::Cursor;
+use crate::prefix::Prefix;
 use crate::scan::Scanned;
 use crate::values::lacks;
 
@@ -22,40 +23,27 @@ pub struct Task<'a> {
     pub budget: usize,
 }
 
-// What a page has done so far: the last prefix visited and whether it is dead, the rows written, the steps made.
+// What a page has done so far: the last prefix visited and whether it is dead, 1 for yes, the rows written, the steps made. It is no
+// bool, since a byte beside numbers makes a walk slow to copy.
 #[derive(Clone, Copy)]
 pub struct Walk {
     pub last: Cursor,
-    pub dead: bool,
+    pub dead: usize,
     pub rows: usize,
     pub steps: usize,
 }
 
-// The prefix one longer that ends in v.
-pub fn push(c: Cursor, v: u8) -> Cursor
-    requires { c.len < 16 }
-    ensures { result ≡ push_of c v }
-{
-    let len = c.len;
-    let mut values = c.values;
-    values[len] = v;
-    Cursor {
-        len: len + 1,
-        values,
-    }
-}
-
 impl Walk {
     // The same walk with its last prefix set, once the values from `from` up to below v are visited after cur.
-    fn behind(self, cur: Cursor, from: u8, v: u8) -> Walk
-        requires { (cur.len < 16) × (from ≤ v) }
-        ensures { result ≡ behind_of self cur from v }
+    fn behind(self, cur: Prefix, from: u8, v: u8) -> Walk
+        requires { (cur.cursor.len < 16) × (from ≤ v) }
+        ensures { result ≡ behind_of self cur.cursor from v }
     {
         if v == from {
             return self;
         }
         Walk {
-            last: push(cur, v - 1),
+            last: cur.push(v - 1).cursor,
             ..self
         }
     }
@@ -71,29 +59,33 @@ pub struct Point {
 }
 
 // Value i of the prefix cur with v behind it.
-fn value(cur: Cursor, v: u8, i: usize) -> u8
-    requires { Plain cur × (i ≤ cur.len) }
-    ensures { result ≡ get_or (prefix_of cur ++ (v ∷ [])) i 0 }
+fn value(cur: Prefix, v: u8, i: usize) -> u8
+    requires { i ≤ cur.cursor.len }
+    ensures { result ≡ get_or (prefix_of cur.cursor ++ (v ∷ [])) i 0 }
 {
-    if i == cur.len { v } else { cur.values[i] }
+    if i == cur.cursor.len {
+        v
+    } else {
+        cur.cursor.values[i]
+    }
 }
 
 // Writes the prefix cur with v behind it into the room from place `at` on: value by value and not by copy_from_slice, since a copy of
 // the prefix would be a call.
-fn put_row(room: &mut [u8], at: usize, cur: Cursor, v: u8)
-    requires { Plain cur × (at + cur.len < length room.old) }
-    ensures { room.new ≡ put_at room.old at (prefix_of cur ++ (v ∷ [])) }
+fn put_row(room: &mut [u8], at: usize, cur: Prefix, v: u8)
+    requires { at + cur.cursor.len < length room.old }
+    ensures { room.new ≡ put_at room.old at (prefix_of cur.cursor ++ (v ∷ [])) }
 {
-    let l = cur.len + 1;
+    let l = cur.cursor.len + 1;
     for i in 0..l {
         room[at + i] = value(cur, v, i);
     }
 }
 
 // One value v of the last setting: a row, if it is not dead; how many rows there are then.
-fn leaf(room: &mut [u8], rows: usize, cur: Cursor, v: u8, dead: bool, l: usize) -> usize
-    requires { Plain cur × (cur.len + 1 ≡ l) × (rows * l + cur.len < length room.old) × (rows < length room.old) }
-    ensures { (result ≡ leaf_rows dead rows) × (room.new ≡ leaf_room dead room.old (rows * l) (prefix_of cur) v) }
+fn leaf(room: &mut [u8], rows: usize, cur: Prefix, v: u8, dead: bool, l: usize) -> usize
+    requires { (cur.cursor.len + 1 ≡ l) × (rows * l + cur.cursor.len < length room.old) × (rows < length room.old) }
+    ensures { (result ≡ leaf_rows dead rows) × (room.new ≡ leaf_room dead room.old (rows * l) (prefix_of cur.cursor) v) }
 {
     if dead {
         return rows;
@@ -105,14 +97,14 @@ fn leaf(room: &mut [u8], rows: usize, cur: Cursor, v: u8, dead: bool, l: usize) 
 // The last prefix of a walk is not set at each value, but behind the run of them.
 impl Task<'_> {
     // Visits the dead values from on.v on, up to the first that is not, or as far as the budget goes.
-    pub fn skip(&self, on: &Point, cur: Cursor) -> Point
-        requires { Plain cur × (cur.len < length self.now.sizes.now) × Sized self.now.sizes.now × Allows (dead (rules_in self.now.book.now)) (prefix_of cur) on.now.scan.allowed × (on.now.v ≤ get_or self.now.sizes.now cur.len 0) }
-        ensures { Skips (dead (rules_in self.now.book.now)) self.now.sizes.now cur self.now.fit self.now.budget on.now.walk on.now.v result.walk result.v × (result.scan ≡ on.now.scan) }
+    pub fn skip(&self, on: &Point, cur: Prefix) -> Point
+        requires { (cur.cursor.len < length self.now.sizes.now) × Sized self.now.sizes.now × Allows (dead (rules_in self.now.book.now)) (prefix_of cur.cursor) on.now.scan.allowed × (on.now.v ≤ get_or self.now.sizes.now cur.cursor.len 0) }
+        ensures { Skips (dead (rules_in self.now.book.now)) self.now.sizes.now cur.cursor self.now.fit self.now.budget on.now.walk on.now.v result.walk result.v × (result.scan ≡ on.now.scan) }
     {
         if self.fit <= on.walk.rows {
             return *on;
         }
-        let n = self.sizes[cur.len];
+        let n = self.sizes[cur.cursor.len];
         let mut walk = on.walk;
         for v in on.v..n {
             if self.budget <= walk.steps || !lacks(on.scan.allowed, usize::from(v)) {
@@ -122,7 +114,7 @@ impl Task<'_> {
                     ..*on
                 };
             }
-            walk.dead = true;
+            walk.dead = 1;
             walk.steps += 1;
         }
         Point {
@@ -133,19 +125,20 @@ impl Task<'_> {
     }
 
     // All that is visited below the live prefix cur of all settings but one, from the value on.v on.
-    pub fn leaves(&self, room: &mut [u8], on: &Point, cur: Cursor) -> Walk
-        requires { Ready self.now.sizes.now room.old cur 1 self.now.fit × (cur.len + 1 ≡ length self.now.sizes.now) × Allows (dead (rules_in self.now.book.now)) (prefix_of cur) on.now.scan.allowed × (on.now.v ≤ get_or self.now.sizes.now cur.len 0) }
-        ensures { ◌≡◌ {A = S} (result, room.new) (runs (dead (rules_in self.now.book.now)) (length self.now.sizes.now) self.now.fit self.now.budget (from_of (dead (rules_in self.now.book.now)) (part self.now.sizes.now cur.len 1) (prefix_of cur) on.now.v) (on.now.walk, room.old)) }
+    pub fn leaves(&self, room: &mut [u8], on: &Point, cur: Prefix) -> Walk
+        requires { Ready self.now.sizes.now room.old cur.cursor 1 self.now.fit × (cur.cursor.len + 1 ≡ length self.now.sizes.now) × Allows (dead (rules_in self.now.book.now)) (prefix_of cur.cursor) on.now.scan.allowed × (on.now.v ≤ get_or self.now.sizes.now cur.cursor.len 0) }
+        ensures { ◌≡◌ {A = S} (result, room.new) (runs (dead (rules_in self.now.book.now)) (length self.now.sizes.now) self.now.fit self.now.budget (from_of (dead (rules_in self.now.book.now)) (part self.now.sizes.now cur.cursor.len 1) (prefix_of cur.cursor) on.now.v) (on.now.walk, room.old)) }
     {
-        let n = self.sizes[cur.len];
+        let n = self.sizes[cur.cursor.len];
         let l = self.sizes.len();
         let mut done = on.walk;
         for v in on.v..n {
             if self.fit <= done.rows || self.budget <= done.steps {
                 return done.behind(cur, on.v, v);
             }
-            done.dead = lacks(on.scan.allowed, usize::from(v));
-            done.rows = leaf(room, done.rows, cur, v, done.dead, l);
+            let dead = lacks(on.scan.allowed, usize::from(v));
+            done.dead = usize::from(dead);
+            done.rows = leaf(room, done.rows, cur, v, dead, l);
             done.steps += 1;
         }
         done.behind(cur, on.v, n)

@@ -5,7 +5,7 @@ ghost use Rattle.meaning.specs.Bytes.{literal_at};
 ghost use Rattle.meaning.specs.Inner.{first_held};
 ghost use Rattle.literals.specs.Inner.{holds_by, Known, literals_in, found};
 
-// Does the literal of this sign and bound hold of the value?
+// Does the literal of this sign and bound hold of the value? The sign is a byte as it stands in a book, whatever it is.
 pub fn holds(sign: u8, bound: u8, value: u8) -> bool
     ensures { result ≡ holds_by sign bound value }
 {

@@ -18,7 +18,7 @@ pub fn scarce(literal: &[u8], side: Side) -> bool
     }
 }
 
-// How many of the literals are scarce.
+// How many of the literals are scarce. A loop of its own beside `reducing`'s `number`: each follows its own definition.
 pub fn scarces(literals: &[u8], side: Side) -> usize
     ensures { result ≡ scarces (side_of side) (literals_in literals.now) }
 {

@@ -87,7 +87,8 @@ fn make_checked(
     }
 }
 
-// Makes the book of a table of rows of l values below n, in a family: 0 general, 1 Horn, 2 dual Horn, 3 bijunctive.
+// Makes the book of a table of rows of l values below n, in a family: 0 general, 1 Horn, 2 dual Horn, 3 bijunctive. It is a number,
+// since C may give any, and 6 refuses what is none.
 // Success writes exactly the book at the start of the room and gives its length and number of rules; the bytes beyond it
 // stay. Otherwise gives the first of refusals 1 to 8, and nothing is written.
 pub fn make(

@@ -45,7 +45,7 @@ impl<'a> Source<'a> {
     }
 }
 
-// The first setting at which two rows differ, or their length where they do not.
+// The first setting at which two rows differ, or their length where they do not, which `fork` counts on.
 pub fn split(a: &[u8], b: &[u8]) -> usize
     requires { length a.now ≡ length b.now }
     ensures { result ≡ split a.now b.now }

@@ -8,7 +8,7 @@ use crate::earlier::{differ, differs_before};
 use crate::rows::Source;
 use crate::sending::Draft;
 use literals::Sign;
-use reducing::Hand;
+use reducing::{Hand, Rows};
 
 impl Source<'_> {
     // Sends the rule, reduced for the family.
@@ -16,7 +16,11 @@ impl Source<'_> {
         requires { Known (length self.now.sizes.now) rule × Countable draft.old.made 1 }
         ensures { Sent 1 self.now (rule ∷ []) draft.old draft.new }
     {
-        let reduced = rule.reduced(self.family, self.table, self.sizes.len());
+        let rows = Rows {
+            table: self.table,
+            l: self.sizes.len(),
+        };
+        let reduced = rule.reduced(self.family, &rows);
         draft.send(&reduced);
     }
 

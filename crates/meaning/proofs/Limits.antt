@@ -36,7 +36,3 @@ module _ (n l : ℕ) (c : Limited n l) (m : ℕ) (e : m ≡ n) where
     some = λ i h. rw (alike_at n l i (omega (arith, alike_length n l))) c.some;
     few = λ i h. rw (alike_at n l i (omega (arith, alike_length n l))) c.few;
   })
-
--- the size of a known setting
-pub size_some : (ns : Sizes) (i : ℕ) → Sized ns → i < length ns → 0 < get_or ns i 0
-size_some ns i s h = s.some i h

@@ -19,8 +19,3 @@ pub record Sized (ns : Sizes) : Type 0 where
 unfoldable pub first_held : Rule → Row → ℕ
 first_held [] x = 0
 first_held (c ∷ r) x = cond (holds c x) 0 (suc (first_held r x))
-
--- by the flag of the code
-abbrev pub side_of : Bool → Side
-side_of false = low
-side_of true = high

@@ -5,7 +5,8 @@ use Rattle.std.proofs.Math.Option.{Option, none, some}
 use Rattle.meaning.specs.Rules.{Rule, Literal, holds}
 use Rattle.meaning.specs.Bytes.{encode_literals}
 use Rattle.meaning.specs.Rows.{rows_of, Row}
-use Rattle.literals.specs.Inner.{Known, literals_in}
+use Rattle.literals.specs.Inner.{literals_in}
+use Rattle.reducing.specs.declared.rows.Rows.{Rows}
 
 -- bytes that a book may have for a rule: each sign is 0 or 1
 abbrev pub Written : List ℕ → Type 0
@@ -16,12 +17,8 @@ pub record Held (count : ℕ) (bytes : List ℕ) : Type 0 where
   pub few : count ≤ 96
   pub written : Written (take count bytes)
 
--- what a reduction asks of a rule and a table, l bytes to a row
-pub record Ready (r : Rule) (l : ℕ) (table : List ℕ) : Type 0 where
-  pub known : Known l r
-  pub l_low : 1 ≤ l
-  pub l_high : l ≤ 16
-  pub rows : length (rows_of l table) ≤ 512
+abbrev pub rows_in : Rows → List Row
+rows_in rows = rows_of rows.l rows.table.now
 
 unfoldable pub one : Bool → ℕ
 one true = 1
@@ -54,3 +51,8 @@ spare c (m ∷ rows) ns = not (eqb (get_or ns 0 0) (one (holds c m))) && spare c
 abbrev pub row_in : ℕ → code.Option (List ℕ) → Option Row
 row_in l None = none
 row_in l (Some values) = some (take l values)
+
+-- a row is given, and the literal holds in it
+abbrev pub serves : Literal → Option Row → Bool
+serves c none = false
+serves c (some m) = holds c m

@@ -1,11 +1,12 @@
 // A rule in hand: the bytes of its literals, as a book has them. In a clause it is the rule.
 ghost use Rattle.std.specs.Prelude.{◌≡◌, [], ◌∷◌, ◌++◌, ◌<◌, ◌≤◌, length, get_or};
-ghost use Rattle.meaning.specs.Rows.{rows_of};
 ghost use Rattle.meaning.specs.Bytes.{literal, literal_at, encode_literals};
 ghost use Rattle.meaning.specs.Families.{reduce_for};
 ghost use Rattle.literals.specs.Kinds.{number_of, sign_of};
-ghost use Rattle.reducing.specs.Inner.{Ready};
+ghost use Rattle.literals.specs.Inner.{Known};
+ghost use Rattle.reducing.specs.Inner.{rows_in};
 
+use crate::Rows;
 use crate::counts::trim;
 use crate::sides::horn;
 use literals::{Family, Side, Sign};
@@ -68,7 +69,7 @@ impl Hand {
         self.keep(&[setting, sign.byte(), bound]);
     }
 
-    // The same rule with one literal more at the end.
+    // The same rule with one literal more at the end. The fields are copied here: a derived clone could fail.
     pub fn with(&self, setting: u8, sign: Sign, bound: u8) -> Hand
         requires { length self.now < 32 }
         ensures { result ≡ self.now ++ (literal (sign_of sign) setting bound ∷ []) }
@@ -81,17 +82,17 @@ impl Hand {
         more
     }
 
-    // The rule as one of the family over a table of l bytes a row.
+    // The rule as one of the family over the rows.
     #[tactic(auto, unfolding(meaning::specs::Families::reduce_for))]
-    pub fn reduced(self, family: Family, table: &[u8], l: usize) -> Hand
-        requires { Ready self l table.now }
-        ensures { result ≡ reduce_for (number_of family) (rows_of l table.now) self }
+    pub fn reduced(self, family: Family, rows: &Rows) -> Hand
+        requires { Known rows.now.l self }
+        ensures { result ≡ reduce_for (number_of family) (rows_in rows.now) self }
     {
         match family {
             Family::General => self,
-            Family::Horn => horn(self, Side::Low, table, l),
-            Family::Dual => horn(self, Side::High, table, l),
-            Family::Bijunctive => trim(&self, table, l),
+            Family::Horn => horn(self, Side::Low, rows),
+            Family::Dual => horn(self, Side::High, rows),
+            Family::Bijunctive => trim(&self, rows),
         }
     }
 }

@@ -3,6 +3,8 @@
 
 pub mod counts;
 mod hand;
+mod rows;
 pub mod sides;
 
 pub use hand::Hand;
+pub use rows::Rows;

@@ -57,7 +57,7 @@ fn open_triple(rows: Rows) -> Option<Open>
 }
 
 // The first rows that show the table not closed for the family: general asks for nothing, Horn for the minimum, dual Horn
-// for the maximum, bijunctive for the median.
+// for the maximum, bijunctive for the median. The family is a number, as a call has it.
 pub fn open_rows(family: usize, table: &[u8], l: usize) -> Option<Open>
     requires { Ready l table.now }
     ensures { shown result ≡ open_rows family (rows_of l table.now) }

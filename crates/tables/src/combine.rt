@@ -39,7 +39,7 @@ pub fn pair_is_row(rows: Rows, side: Side, i: usize, j: usize) -> bool
     rows.has(&x[..rows.l])
 }
 
-// Is the median of rows i, j and m a row too?
+// Is the median of rows i, j and m a row too? It and the one for pairs are what may change alone when either search does.
 pub fn median_is_row(rows: Rows, i: usize, j: usize, m: usize) -> bool
     requires { (i < length (rows_in rows)) × (j < length (rows_in rows)) × (m < length (rows_in rows)) }
     ensures { result ≡ is_row (median_of (rows_in rows.entry) i j m) (rows_in rows.entry) }

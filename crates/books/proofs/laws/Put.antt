@@ -58,9 +58,6 @@ pub record Copied (old : List ℕ) (at : ℕ) (bytes : List ℕ) (i : ℕ) (new 
   pub short : i ≤ length bytes
 
 module _ (old : List ℕ) (at : ℕ) (bytes : List ℕ) (fits : at + length bytes ≤ length old) where
-  pub copied_start : Copied old at bytes 0 old
-  copied_start = record { is = paste-zero old at bytes; long = refl; short = omega arith }
-
   pub copied_on : (i : ℕ) (new : List ℕ) → Copied old at bytes i new → i < length bytes → Copied old at bytes (i + 1) (set new (at + i) (get_or bytes i 0))
   copied_on i new c h = record {
     is = rw (c.is, add-one) (paste-suc old at bytes i 0 (omega arith) h);

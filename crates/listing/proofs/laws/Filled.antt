@@ -17,7 +17,7 @@ use Rattle.books.proofs.laws.Put.{put_at_length, put_at_nothing, put_at_put_at}
 use Rattle.listing.specs.declared.cursor.Cursor.{Cursor}
 use Rattle.listing.specs.declared.steps.Walk.{Walk}
 use Rattle.listing.specs.Cursors.{prefix_of, cursor_of}
-use Rattle.listing.specs.Inner.{Plain, S, walk_of, move_of, visit_of, runs}
+use Rattle.listing.specs.Inner.{Plain, S, walk_of, move_of, visit_of, runs, flag}
 use Rattle.listing.specs.Pages.{flat}
 use Rattle.listing.proofs.laws.Prefixes.{prefix_cursor, cursor_len}
 use Rattle.listing.proofs.laws.Steps.{runs_nil, runs_cons, runs_shut, shut_rows, shut_steps, open_both}
@@ -31,15 +31,15 @@ abbrev last_c : Cursor → List Row → Cursor
 last_c c [] = c
 last_c c (x ∷ xs) = last_c (cursor_of x) xs
 
-abbrev pub last_d : (Row → Bool) → Bool → List Row → Bool
-last_d d b [] = b
-last_d d b (x ∷ xs) = last_d d (d x) xs
+abbrev pub last_d : (Row → Bool) → ℕ → List Row → ℕ
+last_d d n [] = n
+last_d d n (x ∷ xs) = last_d d (flag (d x)) xs
 
 last_cursor : (p : Row) (F : List Row) → last_c (cursor_of p) F ≡ cursor_of (last_or p F)
 last_cursor p [] = refl
 last_cursor p (x ∷ F) = last_cursor x F
 
-pub last_dead : (d : Row → Bool) (x : Row) (F : List Row) → last_d d (d x) F ≡ d (last_or x F)
+pub last_dead : (d : Row → Bool) (x : Row) (F : List Row) → last_d d (flag (d x)) F ≡ flag (d (last_or x F))
 last_dead d x [] = refl
 last_dead d x (y ∷ F) = last_dead d y F
 
@@ -123,7 +123,7 @@ module _ (ns : Sizes) (d : Row → Bool) where
   end_moved : (b : Bool) (x : Row) (F : List Row) (s : S) → shown ns d x ≡ b → (s.0.rows + length (cons_if b x (keep (shown ns d) F))) * length ns ≤ length s.1
       → end_of F (moved b x s)
       ≡ (
-        record { last = last_c (cursor_of x) F; dead = last_d d (d x) F; rows = s.0.rows + length (cons_if b x (keep (shown ns d) F)); steps = s.0.steps + suc (length F) },
+        record { last = last_c (cursor_of x) F; dead = last_d d (flag (d x)) F; rows = s.0.rows + length (cons_if b x (keep (shown ns d) F)); steps = s.0.steps + suc (length F) },
         put_at s.1 (s.0.rows * length ns) (flat (cons_if b x (keep (shown ns d) F))),
       )
   end_moved true x F s e h =
@@ -159,15 +159,15 @@ module _ (ns : Sizes) (d : Row → Bool) where
   -- the state at a page's end
   abbrev pub filled_of : Row → List Row → List ℕ → S
   filled_of p F o = (
-    record { last = cursor_of (last_or p F); dead = last_d d false F; rows = length (keep (shown ns d) F); steps = length F },
+    record { last = cursor_of (last_or p F); dead = last_d d 0 F; rows = length (keep (shown ns d) F); steps = length F },
     flat (keep (shown ns d) F) ++ drop (length (flat (keep (shown ns d) F))) o,
   )
 
   pub page_filled : (fit budget : ℕ) (L : List Row) (c : Cursor) (o : List ℕ) → Plain c → fit * length ns ≤ length o
-      → runs d (length ns) fit budget L (record { last = c; dead = false; rows = 0; steps = 0 }, o) ≡ filled_of (prefix_of c) (front (shown ns d) fit budget L) o
+      → runs d (length ns) fit budget L (record { last = c; dead = 0; rows = 0; steps = 0 }, o) ≡ filled_of (prefix_of c) (front (shown ns d) fit budget L) o
   page_filled fit budget L c o p h =
       let F : List Row = front (shown ns d) fit budget L in
-      let w : Walk = record { last = c; dead = false; rows = 0; steps = 0 } in
+      let w : Walk = record { last = c; dead = 0; rows = 0; steps = 0 } in
       let fits : (0 + length (keep (shown ns d) F)) * length ns ≤ length o =
       omega (arith, h, mul-le-mul_right (length ns) (front_rows (shown ns d) fit budget L)) in
       let r : 0 + length (keep (shown ns d) F) ≡ length (keep (shown ns d) F) = omega arith in

@@ -3,7 +3,7 @@ use Prim.Native.Nat.{ℕ, suc, ◌/◌, ◌≤◌, ◌<◌}
 use native.Mathlib.Nat.{div-mul-le_self, le-div_iff_mul-le}
 use native.Mathlib.Omega.{arith}
 use mathlib.Core.Path.{◌≡◌, refl, sym, ap, ◌∙◌}
-use mathlib.Core.Bool.{Bool, true, false, ◌&&◌, ◌||◌}
+use mathlib.Core.Bool.{not, Bool, true, false, ◌&&◌, ◌||◌}
 use mathlib.Core.List.{List, [], ◌∷◌}
 use lib.Dec.{eqb}
 use lib.ListN.{length, get_or}
@@ -18,7 +18,7 @@ use Rattle.meaning.proofs.Paged.{front_none, page_reached, page_begins}
 use Rattle.listing.specs.declared.cursor.Cursor.{Cursor}
 use Rattle.listing.specs.declared.steps.Walk.{Walk}
 use Rattle.std.specs.Prelude.{Ok}
-use Rattle.listing.specs.Inner.{Plain, finished_of, past_of, S, runs, Resumes, Starts}
+use Rattle.listing.specs.Inner.{Plain, finished_of, past_of, S, runs, Starts, flag}
 use Rattle.listing.specs.Cursors.{prefix_of, cursor_of}
 use Rattle.listing.specs.Pages.{P, listed_in}
 use Rattle.listing.proofs.laws.Prefixes.{prefix_cursor, cursor_len, plain_cursor, begins_length}
@@ -44,6 +44,10 @@ flip false true false = refl
 flip false false true = refl
 flip false false false = refl
 
+flag_told : (b : Bool) → not (eqb (flag b) 0) ≡ b
+flag_told true = refl
+flag_told false = refl
+
 module _ (ns : Sizes) (d : Row → Bool) (p : Row) (fit budget : ℕ) (o : List ℕ) where
   abbrev F : List Row
   F = front (shown ns d) fit budget (after ns d p)
@@ -58,10 +62,11 @@ module _ (ns : Sizes) (d : Row → Bool) (p : Row) (fit budget : ℕ) (o : List 
       go (x ∷ f) e =
           let q : Row = last_or x f in
           let v = page_reached ns d fit budget p x f e in
-          ap (λ (u : Bool). u || ((eqb (cursor_of q).len (length ns) || last_d d (d x) f) && all_last ns (prefix_of (cursor_of q)))) (ne_eqb (suc (length f)) 0 (λ h. omega arith))
-          ∙ ap (λ (u : Row). (eqb (cursor_of q).len (length ns) || last_d d (d x) f) && all_last ns u) (prefix_cursor q)
-          ∙ ap (λ (k : ℕ). (eqb k (length ns) || last_d d (d x) f) && all_last ns q) (cursor_len q)
-          ∙ ap (λ (u : Bool). (eqb (length q) (length ns) || u) && all_last ns q) (last_dead d x f)
+          ap (λ (u : Bool). u || ((eqb (cursor_of q).len (length ns) || not (eqb (last_d d (flag (d x)) f) 0)) && all_last ns (prefix_of (cursor_of q)))) (ne_eqb (suc (length f)) 0 (λ h. omega arith))
+          ∙ ap (λ (u : Row). (eqb (cursor_of q).len (length ns) || not (eqb (last_d d (flag (d x)) f) 0)) && all_last ns u) (prefix_cursor q)
+          ∙ ap (λ (k : ℕ). (eqb k (length ns) || not (eqb (last_d d (flag (d x)) f) 0)) && all_last ns q) (cursor_len q)
+          ∙ ap (λ (m : ℕ). (eqb (length q) (length ns) || not (eqb m 0)) && all_last ns q) (last_dead d x f)
+          ∙ ap (λ (u : Bool). (eqb (length q) (length ns) || u) && all_last ns q) (flag_told (d q))
           ∙ flip (eqb (length q) (length ns)) (d q) (all_last ns q)
           ∙ sym (reached_last ns d q some v)
 
@@ -72,27 +77,17 @@ module _ (b : List ℕ) (rules : ℕ) (ns : Sizes) (c : Cursor) (o : List ℕ) (
   abbrev fit : ℕ
   fit = length o / length ns
 
-  pub listed_resumes : Resumes b rules ns o c fit
-  listed_resumes = record {
-    limited = y.standard.limited;
-    good = y.good;
-    cells = div-mul-le_self (length o) (length ns);
-    stand = y.standard.stand;
-    count = y.standard.count;
-    few = y.standard.few;
-  }
-
   some_fit : 1 ≤ fit
   some_fit = (le-div_iff_mul-le {k = length ns} {x = 1} {y = length o} y.standard.settings).1 (omega (arith, y.row))
 
   module _ (w : Walk) (o' : List ℕ)
-      (h : ◌≡◌ {A = S} (w, o') (runs d (length ns) fit budget (past_of d ns [] (prefix_of c)) (record { last = c; dead = false; rows = 0; steps = 0 }, o))) where
+      (h : ◌≡◌ {A = S} (w, o') (runs d (length ns) fit budget (past_of d ns [] (prefix_of c)) (record { last = c; dead = 0; rows = 0; steps = 0 }, o))) where
     abbrev seen : List Row
     seen = F ns d (prefix_of c) fit budget o
 
     walked : ◌≡◌ {A = S} (w, o') (filled_of ns d (prefix_of c) seen o)
     walked =
-        h ∙ ap (λ (L : List Row). runs d (length ns) fit budget L (record { last = c; dead = false; rows = 0; steps = 0 }, o)) (past_after d ns (prefix_of c) y.good.fits)
+        h ∙ ap (λ (L : List Row). runs d (length ns) fit budget L (record { last = c; dead = 0; rows = 0; steps = 0 }, o)) (past_after d ns (prefix_of c) y.good.fits)
         ∙ page_filled ns d fit budget (after ns d (prefix_of c)) c o y.good.plain (div-mul-le_self (length o) (length ns))
 
     pub listed_last : Plain w.last × (w.last.len ≤ length ns)

@@ -24,15 +24,6 @@ eq_or a b = elim (compare a b) [
 ne_lt : (a b : ℕ) → (a ≡ b → ⊥) → a < b + 1 → a < b
 ne_lt a b n h = omega arith
 
-pub stirred_same : (p : List ℕ) (lo hi : ℕ) → Stirred p p lo hi
-stirred_same p lo hi = record {
-  long = refl;
-  low = λ i h. refl;
-  high = λ i h. refl;
-  there = λ i h k. record { at = i; above = h; under = k; is = refl };
-  back = λ i h k. record { at = i; above = h; under = k; is = refl };
-}
-
 pub stirred_on : (p q r : List ℕ) (lo hi : ℕ) → Stirred p q lo hi → Stirred q r lo hi → Stirred p r lo hi
 stirred_on p q r lo hi s t = record {
   long = t.long ∙ s.long;

@@ -16,22 +16,19 @@ use Rattle.listing.specs.Inner.{Plain, push_of, forbidden, Kept, Ruled, Open, Lo
 use Rattle.listing.proofs.laws.Ruled.{ruled_kept}
 use Rattle.listing.proofs.laws.Turns.{inward_less}
 use Rattle.listing.proofs.laws.Trimming.{ruled_trimmed}
-use Rattle.listing.proofs.laws.Prefixes.{plain_length, push_prefix, push_plain}
+use Rattle.listing.proofs.laws.Prefixes.{plain_length, push_prefix}
 use Rattle.listing.proofs.laws.Course.{part_cons}
 use Rattle.listing.proofs.laws.Steps.{runs_nil, runs_append}
 
 -- ---- what a look below cur tells of the prefix one longer
 
 module _ {b : List ℕ} {d : Row → Bool} {ns : Sizes} {room : List ℕ} {cur : Cursor} {levels fit : ℕ} {p st e : List ℕ} {s : Scanned} {v : ℕ} {next : Cursor}
-    (y : Ready ns room cur levels fit) (z : 0 < levels) (a : Looks b d (prefix_of cur) p st e v s) (h : v < get_or ns cur.len 0) (n : next ≡ push_of cur v) where
+    (plain : Plain cur) (y : Ready ns room cur levels fit) (z : 0 < levels) (a : Looks b d (prefix_of cur) p st e v s) (h : v < get_or ns cur.len 0) (n : next ≡ push_of cur v) where
   longer : prefix_of next ≡ prefix_of cur ++ (v ∷ [])
-  longer = ap (λ (u : Cursor). prefix_of u) n ∙ push_prefix cur v y.plain (omega (arith, y.deep, y.limited.short))
-
-  pub next_plain : Plain next
-  next_plain = rw n (push_plain cur v y.plain (omega (arith, y.deep, y.limited.short)))
+  longer = ap (λ (u : Cursor). prefix_of u) n ∙ push_prefix cur v plain (omega (arith, y.deep, y.limited.short))
 
   pub next_ready : (t : Bool) (k : ℕ) → k ≡ inward_of t levels → Ready ns room next k fit
-  next_ready t k f = record { cells = y.cells; plain = next_plain; deep = omega (arith, y.deep, inward_less t levels (λ x. omega arith), f, ap (λ (u : Cursor). u.len) n); limited = y.limited }
+  next_ready t k f = record { cells = y.cells; deep = omega (arith, y.deep, inward_less t levels (λ x. omega arith), f, ap (λ (u : Cursor). u.len) n); limited = y.limited }
 
   pub next_small : v < 64
   next_small = omega (arith, y.limited.few cur.len (omega (arith, y.deep)))
@@ -45,7 +42,7 @@ module _ {b : List ℕ} {d : Row → Bool} {ns : Sizes} {room : List ℕ} {cur :
   -- with the run trimmed
   module _ (at k : ℕ) (t : Trims b s.at s.rules cur.len v at k) where
     trims : Trims b s.at s.rules (length (prefix_of cur)) v at k
-    trims = rw (plain_length cur y.plain) t
+    trims = rw (plain_length cur plain) t
 
     pub next_trimmed : d (prefix_of next) ≡ false → Ruled b d (prefix_of next) p st e at k
     next_trimmed l = rw longer (ruled_trimmed b d (prefix_of cur) p st e s.at s.rules at k v v trims (omega arith) (a.next v (omega arith) (sym (ap d longer) ∙ l)))
@@ -92,7 +89,7 @@ module _ {ns : Sizes} {o : List ℕ} {c cur : Cursor} {levels fit : ℕ} (y : Re
   pub resume_next : {next : Cursor} → next ≡ push_of cur (get_or c.values cur.len 0) → Ready ns o next (levels - 1) fit × Along ns c next (levels - 1)
   resume_next {next} n =
       let long : next.len ≡ cur.len + 1 = ap (λ (u : Cursor). u.len) n in (
-        record { cells = y.cells; plain = rw n (push_plain cur (get_or c.values cur.len 0) y.plain resume_small.0); deep = omega (arith, y.deep, resume_small.3, long); limited = y.limited },
+        record { cells = y.cells; deep = omega (arith, y.deep, resume_small.3, long); limited = y.limited },
         record { plain = a.plain; here = omega (arith, a.here, long); deep = omega (arith, a.deep, resume_small.3, long); fits = a.fits },
       )
 
@@ -108,7 +105,7 @@ module _ (d : Row → Bool) (ns : Sizes) (c cur : Cursor) (levels fit budget : �
       sym (runs_nil d (length ns) fit budget (st, o))
       ∙ ap (λ (L : List Row). runs d (length ns) fit budget L (st, o)) (sym (past_none d (part ns q.len k) (prefix_of q) (drop q.len (prefix_of c)) h))
 
-  module _ (y : Ready ns o cur levels fit) (a : Along ns c cur levels) (live : d (prefix_of cur) ≡ false) where
+  module _ (plain : Plain cur) (y : Ready ns o cur levels fit) (a : Along ns c cur levels) (live : d (prefix_of cur) ≡ false) where
     module _ (k : cur.len ≡ c.len → ⊥) where
       module _ (next : Cursor) (n : next ≡ push_of cur (get_or c.values cur.len 0)) where
         abbrev v : ℕ
@@ -123,7 +120,7 @@ module _ (d : Row → Bool) (ns : Sizes) (c cur : Cursor) (levels fit budget : �
             let small = resume_small y a k in
             let long : next.len ≡ cur.len + 1 = ap (λ (u : Cursor). u.len) n in
             let deeper : Sizes = part ns (cur.len + 1) (levels - 1) in
-            let x : prefix_of next ≡ prefix_of cur ++ (v ∷ []) = ap (λ (u : Cursor). prefix_of u) n ∙ push_prefix cur v y.plain small.0 in
+            let x : prefix_of next ≡ prefix_of cur ++ (v ∷ []) = ap (λ (u : Cursor). prefix_of u) n ∙ push_prefix cur v plain small.0 in
             let lc = plain_length c a.plain in
             let in_c : cur.len < c.len = omega (arith, a.here) in
             let cons : drop cur.len (prefix_of c) ≡ v ∷ drop (cur.len + 1) (prefix_of c) =

@@ -16,7 +16,7 @@ use Rattle.listing.specs.declared.scan.Passed.TheVariants.{Holds, Left}
 use Rattle.listing.specs.Inner.{early_of, settle_list, settle_count, Parted, Laid, Kept, Hit, Ruled, is_open, open_of, Siftable, Narrowable, Narrowed}
 use Rattle.listing.proofs.laws.Literals.{early_holds}
 use Rattle.listing.proofs.laws.Parting.{eq_or, Parting, parting_on}
-use Rattle.listing.proofs.laws.Ruled.{kept_same, kept_on, kept_wider, kept_stirred, ruled_kept}
+use Rattle.listing.proofs.laws.Ruled.{kept_on, kept_wider, kept_stirred, ruled_kept}
 use Rattle.listing.proofs.laws.Looking.{never_dead}
 
 -- what the prefix does not leave open is met below it
@@ -42,9 +42,6 @@ module _ (b : List ℕ) (w : ℕ → Bool) (p : List ℕ) (lo hi n : ℕ) (a : S
 
 -- ---- the fronts below a prefix
 
-pub narrowed_none : (b : List ℕ) (x : Row) (p s e : List ℕ) (n : ℕ) → Narrowable b p s e n → Narrowed b x p s e p e
-narrowed_none b x p s e n a = record { kept = kept_same s e p; within = record { under = λ g h. omega arith }; laid = a.laid; ruled = λ d at k r. r }
-
 pub record Narrowing (b : List ℕ) (x : Row) (p s e q f : List ℕ) (n m g : ℕ) : Type 0 where
   pub long : m ≡ n
   pub first : Laid s e (length p)
@@ -53,6 +50,14 @@ pub record Narrowing (b : List ℕ) (x : Row) (p s e q f : List ℕ) (n m g : �
 
 module _ (b : List ℕ) (x : Row) (p s e q f : List ℕ) (n m g : ℕ) (y : Narrowing b x p s e q f n m g) (h : g < 16)
     (lo hi : ℕ) (from : lo ≡ get_or s g 0) (end : hi ≡ get_or f g 0) where
+  pub narrowing_next : Siftable b q lo hi m
+  narrowing_next = record {
+    low = omega (arith, y.able.laid.low g h);
+    inside = omega (arith, y.able.laid.front g h, y.able.laid.inside g h);
+    hints = y.able.hints;
+    ends = λ i l a. y.able.ends g i h (omega arith) (omega arith);
+  }
+
   module _ (r : List ℕ) (k : ℕ) (parted : Parted (open_of b x) q lo hi r k) (m' : ℕ) (same : m' ≡ m) where
     t : Parted (open_of b x) q (get_or s g 0) (get_or f g 0) r k
     t = rw (from, end) at parted

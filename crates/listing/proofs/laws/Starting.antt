@@ -16,7 +16,7 @@ use Rattle.listing.specs.declared.cursor.Cursor.{Cursor}
 use Rattle.listing.specs.declared.steps.Walk.{Walk}
 use Rattle.listing.specs.Inner.{Stands, AllStand, Ruled, Open, Narrowable, Sorted, past_of, S, runs, Ready, Along, Resumes}
 use Rattle.listing.specs.Cursors.{prefix_of, cursor_of}
-use Rattle.listing.proofs.laws.Prefixes.{plain_cursor, plain_length, begins_at}
+use Rattle.listing.proofs.laws.Prefixes.{plain_length, begins_at}
 use Rattle.listing.proofs.laws.Grouping.{grouped_ruled}
 use Rattle.listing.proofs.laws.Course.{part_all}
 use Rattle.listing.proofs.laws.Steps.{runs_nil}
@@ -75,7 +75,7 @@ module _ (b : List ℕ) (rules : ℕ) (ns : Sizes) (room : List ℕ) (c : Cursor
   d = dead (rules_in b)
 
   abbrev w₀ : Walk
-  w₀ = record { last = c; dead = false; rows = 0; steps = 0 }
+  w₀ = record { last = c; dead = 0; rows = 0; steps = 0 }
 
   abbrev pub start_of : S
   start_of = runs d (length ns) fit budget (past_of d ns [] (prefix_of c)) (w₀, room)
@@ -98,7 +98,7 @@ module _ (b : List ℕ) (rules : ℕ) (ns : Sizes) (room : List ℕ) (c : Cursor
 
     pub start_ready : Ready ns room root (length ns) fit × Along ns c root (length ns)
     start_ready = (
-      record { cells = y.cells; plain = rw r (plain_cursor [] (omega arith)); deep = omega (arith, root_len); limited = y.limited },
+      record { cells = y.cells; deep = omega (arith, root_len); limited = y.limited },
       record {
         plain = y.good.plain;
         here = omega (arith, root_len);

@@ -1,6 +1,7 @@
 -- Steps: what a page has done so far, what a visit does to it, and visits one after the other.
 use Prim.Native.Nat.{ℕ, ◌+◌, ◌≤◌, ◌<◌}
 use mathlib.Core.Path.{◌≡◌, refl}
+use mir.Val.{bool_byte}
 use mathlib.Core.Bool.{Bool, true, false, ◌&&◌}
 use mathlib.Core.List.{List, [], ◌∷◌, ◌++◌}
 use lib.Dec.{ltb}
@@ -9,7 +10,7 @@ use borrow.Author.Tests.{lt-ltb, le-ltb, ne_eqb}
 use Rattle.meaning.specs.Rows.{Row, Sizes}
 use Rattle.listing.specs.declared.cursor.Cursor.{Cursor}
 use Rattle.listing.specs.declared.steps.Walk.{Walk}
-use Rattle.listing.specs.Inner.{S, walk_of, move_of, goes_on, visit_of, runs, Ready}
+use Rattle.listing.specs.Inner.{S, walk_of, flag, move_of, goes_on, visit_of, runs, Ready}
 
 module _ (d : Row → Bool) (l fit budget : ℕ) where
   pub runs_nil : (s : S) → runs d l fit budget [] s ≡ s
@@ -50,7 +51,15 @@ pub move_short : (l : ℕ) (d : Bool) (q : Cursor) (w : Walk) (o : List ℕ) (r 
 move_short l true q w o r h f = rw f
 move_short l false q w o r h f = rw (ne_eqb q.len l h, f)
 
+-- a mark, as the code makes it
+pub flag_is : (n : ℕ) (b : Bool) → n ≡ bool_byte b → n ≡ flag b
+flag_is n true h = h
+flag_is n false h = h
+
+pub walk_is : (q : Cursor) (n : ℕ) (b : Bool) (rows steps : ℕ) → n ≡ bool_byte b → record { last = q; dead = n; rows = rows; steps = steps } ≡ walk_of q b rows steps
+walk_is q n b rows steps h = rw (flag_is n b h)
+
 -- ---- what the walk below a prefix asks
 
 pub ready_same : (ns : Sizes) (o o₁ : List ℕ) (cur : Cursor) (levels fit : ℕ) → Ready ns o cur levels fit → length o₁ ≡ length o → Ready ns o₁ cur levels fit
-ready_same ns o o₁ cur levels fit y h = record { cells = rw h y.cells; plain = y.plain; deep = y.deep; limited = y.limited }
+ready_same ns o o₁ cur levels fit y h = record { cells = rw h y.cells; deep = y.deep; limited = y.limited }

@@ -72,9 +72,9 @@ module _ (d : Row → Bool) (ns : Sizes) (cur : Cursor) (levels fit budget : ℕ
         deep true = refl
         deep false = refl
 
-    module _ (y : Ready ns o₀ cur levels fit) (g : Going d ns cur levels fit budget from st o₀ o w v) (z : levels ≡ 0 → ⊥) (next : Cursor) (n : next ≡ push_of cur v) where
+    module _ (plain : Plain cur) (y : Ready ns o₀ cur levels fit) (g : Going d ns cur levels fit budget from st o₀ o w v) (z : levels ≡ 0 → ⊥) (next : Cursor) (n : next ≡ push_of cur v) where
       next_prefix : prefix_of next ≡ prefix_of cur ++ (v ∷ [])
-      next_prefix = ap (λ (u : Cursor). prefix_of u) n ∙ push_prefix cur v y.plain (omega (arith, y.deep, y.limited.short))
+      next_prefix = ap (λ (u : Cursor). prefix_of u) n ∙ push_prefix cur v plain (omega (arith, y.deep, y.limited.short))
 
       next_len : next.len ≡ cur.len + 1
       next_len = ap (λ (u : Cursor). u.len) n
@@ -96,17 +96,17 @@ module _ (d : Row → Bool) (ns : Sizes) (cur : Cursor) (levels fit budget : ℕ
           ∙ ap (λ (a : ℕ). runs d (length ns) fit budget (from_of d (part ns a (inward_of (d x) levels)) (prefix_of next) 0) (seen, o₁)) next_len
           ∙ ap (λ (u : Row). runs d (length ns) fit budget (from_of d (part ns (cur.len + 1) (inward_of (d x) levels)) u 0) (seen, o₁)) next_prefix
           ∙ ap (λ (t : S). runs d (length ns) fit budget (from_of d (part ns (cur.len + 1) (inward_of (d x) levels)) x 0) t) m' in
-          record { long = lo₂ ∙ lo ∙ g.long; left = ap (λ (t : S). runs d (length ns) fit budget (left_at d ns cur levels fit budget (get_or ns cur.len 0) (v + 1)) t) q' ∙ sym (turn y.plain c h i j) ∙ g.left }
+          record { long = lo₂ ∙ lo ∙ g.long; left = ap (λ (t : S). runs d (length ns) fit budget (left_at d ns cur levels fit budget (get_or ns cur.len 0) (v + 1)) t) q' ∙ sym (turn plain c h i j) ∙ g.left }
 
 -- one turn of the loop: the visit of v, all below it, and the dead values behind it
-pub turns_on : (d : Row → Bool) (ns : Sizes) (cur : Cursor) (levels fit budget : ℕ) (w : Walk) (o : List ℕ) (v : ℕ) → Ready ns o cur levels fit → 0 < levels → cur.len + 1 < length ns
+pub turns_on : (d : Row → Bool) (ns : Sizes) (cur : Cursor) (levels fit budget : ℕ) (w : Walk) (o : List ℕ) (v : ℕ) → Plain cur → Ready ns o cur levels fit → 0 < levels → cur.len + 1 < length ns
     → v < get_or ns cur.len 0 → w.rows < fit → w.steps < budget → (next : Cursor) → next ≡ push_of cur v → (b : Bool) → b ≡ d (prefix_of next)
     → (seen : Walk) → seen ≡ walk_of next b w.rows (w.steps + 1) → (k : ℕ) → k ≡ inward_of b levels
     → (r : Walk) (o₁ : List ℕ) → ◌≡◌ {A = S} (r, o₁) (runs d (length ns) fit budget (from_of d (part ns next.len k) (prefix_of next) 0) (seen, o)) → length o₁ ≡ length o
     → (r₁ : Walk) (u : ℕ) → Skips d ns cur fit budget r (v + 1) r₁ u → Turns d ns cur levels fit budget w o v r₁ o₁ u
-turns_on d ns cur levels fit budget w o v y z short h i j next n b e seen f k g r o₁ q lo r₁ u t = record {
+turns_on d ns cur levels fit budget w o v plain y z short h i j next n b e seen f k g r o₁ q lo r₁ u t = record {
   ahead = omega (arith, t.ahead);
-  on = λ from st o₀ go. t.on levels from st o₀ o₁ (going_on d ns cur levels fit budget from st o₀ o w v (ready_same ns o o₀ cur levels fit y (sym go.long)) go (λ x. omega arith) next n h i j b e seen o moved refl k g r o₁ q lo);
+  on = λ from st o₀ go. t.on levels from st o₀ o₁ (going_on d ns cur levels fit budget from st o₀ o w v plain (ready_same ns o o₀ cur levels fit y (sym go.long)) go (λ x. omega arith) next n h i j b e seen o moved refl k g r o₁ q lo);
 }
   where
     len : next.len ≡ cur.len + 1
@@ -118,7 +118,7 @@ turns_on d ns cur levels fit budget w o v y z short h i j next n b e seen f k g 
 -- ---- the last level: nothing is below its values
 
 module _ (d : Row → Bool) (ns : Sizes) (cur : Cursor) (fit budget : ℕ) (from : ℕ) (st : Walk) (o₀ o : List ℕ) (w : Walk) (v : ℕ)
-    (y : Ready ns o₀ cur 1 fit) (g : Going d ns cur 1 fit budget from st o₀ o w v) (next : Cursor) (n : next ≡ push_of cur v) (h : v < get_or ns cur.len 0) where
+    (plain : Plain cur) (y : Ready ns o₀ cur 1 fit) (g : Going d ns cur 1 fit budget from st o₀ o w v) (next : Cursor) (n : next ≡ push_of cur v) (h : v < get_or ns cur.len 0) where
   pub leaf_small : (i : ℕ) → i ≡ v → i < 64
   leaf_small i e = omega (arith, y.limited.few cur.len (omega (arith, y.deep)))
 
@@ -126,7 +126,7 @@ module _ (d : Row → Bool) (ns : Sizes) (cur : Cursor) (fit budget : ℕ) (from
       → (seen : Walk) (o₁ : List ℕ) → ◌≡◌ {A = S} (seen, o₁) (move_of (length ns) b next (w, o)) → length o₁ ≡ length o
       → Going d ns cur 1 fit budget from st o₀ o₁ seen (v + 1)
   leaf_on set a i j k e b f seen o₁ m lo =
-      going_on d ns cur 1 fit budget from st o₀ o w v y g (λ z. omega arith) next n h i j b dead seen o₁ m lo 0 (none b) seen o₁
+      going_on d ns cur 1 fit budget from st o₀ o w v plain y g (λ z. omega arith) next n h i j b dead seen o₁ m lo 0 (none b) seen o₁
       (sym (runs_nil d (length ns) fit budget (seen, o₁))) refl
     where
       none : (c : Bool) → 0 ≡ inward_of c 1
@@ -134,7 +134,7 @@ module _ (d : Row → Bool) (ns : Sizes) (cur : Cursor) (fit budget : ℕ) (from
       none false = refl
 
       longer : prefix_of next ≡ prefix_of cur ++ (v ∷ [])
-      longer = ap (λ (u : Cursor). prefix_of u) n ∙ push_prefix cur v y.plain (omega (arith, y.deep, y.limited.short))
+      longer = ap (λ (u : Cursor). prefix_of u) n ∙ push_prefix cur v plain (omega (arith, y.deep, y.limited.short))
 
       dead : b ≡ d (prefix_of next)
       dead = f ∙ ap (forbidden set) e ∙ a.is v (omega (arith, leaf_small v refl)) ∙ ap d (sym longer)
@@ -144,14 +144,14 @@ module _ (d : Row → Bool) (ns : Sizes) (cur : Cursor) (fit budget : ℕ) (from
 pub behind_rows : (t : Walk) (cur : Cursor) (v u : ℕ) → (behind_of t cur v u).rows ≡ t.rows
 behind_rows t cur v u = go (eqb u v)
   where
-    go : (b : Bool) → (cond b t (walk_of (push_of cur (u - 1)) t.dead t.rows t.steps)).rows ≡ t.rows
+    go : (b : Bool) → (cond b t (record { last = push_of cur (u - 1); dead = t.dead; rows = t.rows; steps = t.steps })).rows ≡ t.rows
     go true = refl
     go false = refl
 
 pub behind_steps : (t : Walk) (cur : Cursor) (v u : ℕ) → (behind_of t cur v u).steps ≡ t.steps
 behind_steps t cur v u = go (eqb u v)
   where
-    go : (b : Bool) → (cond b t (walk_of (push_of cur (u - 1)) t.dead t.rows t.steps)).steps ≡ t.steps
+    go : (b : Bool) → (cond b t (record { last = push_of cur (u - 1); dead = t.dead; rows = t.rows; steps = t.steps })).steps ≡ t.steps
     go true = refl
     go false = refl
 
@@ -173,7 +173,7 @@ module _ (d : Row → Bool) (ns : Sizes) (cur : Cursor) (fit budget : ℕ) where
 
   pub skipping_on : {w : Walk} {v : ℕ} {t : Walk} {u : ℕ} → Skipping w v t u → Plain cur → cur.len < 16 → u < get_or ns cur.len 0 → get_or ns cur.len 0 ≤ 64
       → w.rows < fit → t.steps < budget → (set : ℕ) → Allows d (prefix_of cur) set → (i : ℕ) → i ≡ u → (b : Bool) → b ≡ forbidden set i → b ≡ true
-      → Skipping w v (record { last = t.last; dead = true; rows = t.rows; steps = t.steps + 1 }) (u + 1)
+      → Skipping w v (record { last = t.last; dead = 1; rows = t.rows; steps = t.steps + 1 }) (u + 1)
   skipping_on {w} {v} {t} {u} y p h k small r m set a i e b f z = record {
     rows_are = y.rows_are;
     skips = record {
@@ -186,7 +186,7 @@ module _ (d : Row → Bool) (ns : Sizes) (cur : Cursor) (fit budget : ℕ) where
       kills : d (prefix_of cur ++ (u ∷ [])) ≡ true
       kills = sym (a.is u (omega arith)) ∙ sym (ap (forbidden set) e) ∙ sym f ∙ z
 
-      same : behind_of (record { last = t.last; dead = true; rows = t.rows; steps = t.steps + 1 }) cur v (u + 1)
+      same : behind_of (record { last = t.last; dead = 1; rows = t.rows; steps = t.steps + 1 }) cur v (u + 1)
           ≡ walk_of (push_of cur u) true (behind_of t cur v u).rows ((behind_of t cur v u).steps + 1)
       same =
           let n : u + 1 - 1 ≡ u = omega arith in

@@ -46,9 +46,6 @@ small true = omega arith
 small false = omega arith
 
 module _ (s : Side) (b : List ℕ) where
-  pub scarce_start : ScarceFrom s b b 0
-  scarce_start = record { few = omega arith; whole = omega arith }
-
   module _ {rest : List ℕ} {k : ℕ} (m : ScarceFrom s b rest k) where
     pub scarce_on : (y t : List ℕ) → rest ≡ y ++ t → length y ≡ 3 → (r : Bool) → r ≡ scarce s (literal_at y 0) → ScarceFrom s b t (k + bool_byte r)
     unfolding scarces

@@ -15,9 +15,6 @@ use borrow.Author.Tests.{lt-ltb, le-ltb}
 use Rattle.meaning.specs.Rows.{Row, row}
 use Rattle.meaning.specs.General.{split, fork}
 use Rattle.meaning.proofs.Flat.{rows_count, row_bytes, row_length}
-use Rattle.meaning.specs.Rules.{Rule}
-use Rattle.reducing.specs.Inner.{Ready}
-use Rattle.literals.specs.Inner.{Known}
 use Rattle.makers.specs.declared.rows.Source.{Source}
 use Rattle.makers.specs.Inner.{source_rows}
 
@@ -36,14 +33,8 @@ module _ (s : Source) (k : ℕ) (known : k < s.rows) where
   pub row_width : (m : Row) → m ≡ row (source_rows s) k → length m ≡ length s.sizes.now
   row_width m e = ap length e ∙ row_length (length s.sizes.now) s.table.now k (omega (arith, s.given.count))
 
--- a rule over the settings can be reduced
-pub rule_ready : (s : Source) (r : Rule) → Known (length s.sizes.now) r → Ready r (length s.sizes.now) s.table.now
-rule_ready s r known = record {
-  known = known;
-  l_low = s.given.some;
-  l_high = s.given.few;
-  rows = omega (arith, rows_counted s, s.given.most);
-}
+pub rows_few : (s : Source) → length (source_rows s) ≤ 512
+rows_few s = omega (arith, rows_counted s, s.given.most)
 
 -- ---- the split
 

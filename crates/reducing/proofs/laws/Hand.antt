@@ -8,13 +8,14 @@ use borrow.Rule.Slice.PartMut.{put_mid}
 use lib.Seq.{length-take-le}
 use Rattle.std.proofs.lemmas.Slice.{take-put_mid}
 use Rattle.meaning.specs.Bytes.{literal_at}
+use Rattle.meaning.proofs.Encoded.{encode_literals_length}
 use Rattle.literals.specs.Inner.{literals_in}
 use Rattle.reducing.specs.Inner.{Held}
-use Rattle.reducing.proofs.laws.Written.{encoded_length, written_rule, written_on}
+use Rattle.reducing.proofs.laws.Written.{written_rule, written_on}
 
 module _ {n : ℕ} {b : List ℕ} (h : Held n b) (long : length b ≡ 96) where
   kept_length : n ≡ 3 * length (literals_in (take n b))
-  kept_length = sym (length-take-le n b (omega (arith, h.few))) ∙ ap length h.written ∙ encoded_length (literals_in (take n b))
+  kept_length = sym (length-take-le n b (omega (arith, h.few))) ∙ ap length h.written ∙ encode_literals_length (literals_in (take n b))
 
   pub kept_few : length (literals_in (take n b)) ≤ 32
   kept_few = omega (arith, kept_length, h.few)

@@ -7,11 +7,12 @@ use mathlib.Core.List.{List, [], ◌∷◌, ◌++◌, append-nil, append_assoc}
 use mathlib.Core.Option.{Option, none, some}
 use lib.ListN.{length, length-append}
 use Rattle.meaning.specs.Rows.{Row}
-use Rattle.meaning.specs.Rules.{Literal, Rule, Side, scarce, holds}
+use Rattle.meaning.specs.Rules.{Literal, Rule, Side, scarce}
 use Rattle.meaning.specs.Bytes.{encode_literals, literal_at}
 use Rattle.meaning.specs.Families.{common, common_and, keep_for}
 use Rattle.literals.specs.Inner.{Known, literals_in}
 use Rattle.literals.proofs.laws.Chunks.{literals_over}
+use Rattle.reducing.specs.Inner.{serves}
 use Rattle.reducing.proofs.laws.Passed.{literals_on}
 use Rattle.reducing.proofs.laws.Written.{rule_back}
 use Rattle.reducing.proofs.laws.Trim.{Left, left_start, left_on}
@@ -25,17 +26,15 @@ module _ (s : Side) (c : Literal) (r : Rule) where
   keep_common (some m) h = rw h
 
   module _ (h : scarce s c ≡ true) where
-    pub keep_scarce : keep_for s (c ∷ r) none ≡ keep_for s r none
-    unfolding keep_for common
-    keep_scarce = rw h
+    pub keep_found : (o : Option Row) → serves c o ≡ true → keep_for s (c ∷ r) o ≡ c ∷ keep_for s r none
+    unfolding keep_for common common_and
+    keep_found none t = absurd (cc)
+    keep_found (some m) t = rw (h, t)
 
-    pub keep_found : (m : Row) → holds c m ≡ true → keep_for s (c ∷ r) (some m) ≡ c ∷ keep_for s r none
-    unfolding keep_for common_and
-    keep_found m t = rw (h, t)
-
-    pub keep_passed : (m : Row) → holds c m ≡ false → keep_for s (c ∷ r) (some m) ≡ keep_for s r (some m)
-    unfolding keep_for common_and
-    keep_passed m t = rw (h, t)
+    pub keep_passed : (o : Option Row) → serves c o ≡ false → keep_for s (c ∷ r) o ≡ keep_for s r o
+    unfolding keep_for common common_and
+    keep_passed none t = rw h
+    keep_passed (some m) t = rw (h, t)
 
 -- ---- what stays of the literals that are passed is kept
 pub record KeptFrom (s : Side) (l : ℕ) (r : Rule) (begun : Option Row) (rest : List ℕ) (kept : Rule) (o : Option Row) : Type 0 where

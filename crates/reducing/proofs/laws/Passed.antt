@@ -1,4 +1,4 @@
--- Passed: loops that go through the literals of a rule, or through the rows of a table, and what is left of them.
+-- Passed: loops that go through the literals of a rule: the first of those that are left; and the loop that counts those that hold.
 use Prim.Native.Nat.{ℕ, ◌+◌, ◌≤◌, ◌<◌}
 use native.Mathlib.Omega.{arith}
 use mathlib.Core.Path.{◌≡◌, refl, ◌∙◌}
@@ -44,16 +44,13 @@ small : (r : Bool) → bool_byte r ≤ 1
 small true = omega arith
 small false = omega arith
 
-pub number_start : (b : List ℕ) (m : Row) → Known (length m) (literals_in b) → NumberFrom b b m 0
-number_start b m k = record { known = k; few = omega arith; whole = omega arith }
-
 module _ {b rest : List ℕ} {m : Row} {k : ℕ} (n : NumberFrom b rest m k) where
-  pub number_on : (y t : List ℕ) → rest ≡ y ++ t → length y ≡ 3 → (r : Bool) → r ≡ holds (literal_at y 0) m → (k + bool_byte r ≤ length b) × NumberFrom b t m (k + bool_byte r)
+  pub number_on : (y t : List ℕ) → rest ≡ y ++ t → length y ≡ 3 → (r : Bool) → r ≡ holds (literal_at y 0) m → NumberFrom b t m (k + bool_byte r)
   unfolding number
   number_on y t e three r d =
       let w : number (λ c. holds c m) (literals_in b) ≡ k + (one r + number (λ c. holds c m) (literals_in t)) = n.whole ∙ rw (literals_on y t e three, d) in
       let f : k + bool_byte r + length t ≤ length b = omega (arith, n.few, length_on y t e three, small r) in
-      (omega (arith, f), record { known = (known_on y t e three n.known).1; few = f; whole = omega (arith, w, one_byte r) })
+      record { known = (known_on y t e three n.known).1; few = f; whole = omega (arith, w, one_byte r) }
 
   pub number_end : length rest < 3 → k ≡ number (λ c. holds c m) (literals_in b)
   unfolding number

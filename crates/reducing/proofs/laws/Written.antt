@@ -1,5 +1,5 @@
 -- Written: the bytes that a book has for a rule, the rule that they stand for, and what one literal more does to both.
-use Prim.Native.Nat.{ℕ, zero, suc, ◌*◌, ◌<◌}
+use Prim.Native.Nat.{ℕ, zero, suc, ◌<◌}
 use native.Mathlib.Omega.{arith}
 use mathlib.Core.Path.{◌≡◌, refl, sym, ap, subst, ◌∙◌}
 use mathlib.Core.List.{List, [], ◌∷◌, ◌++◌, append-nil}
@@ -23,11 +23,9 @@ unfolding encode_literals
 encode_append [] s = refl
 encode_append (c ∷ r) s = rw (encode_append r s)
 
-pub encoded_back : (r : Rule) → literals_in (encode_literals r) ≡ r
-unfolding literals_in encode_literals
-encoded_back [] = refl
-encoded_back (at_most i d ∷ r) = ap (λ (s : Rule). at_most i d ∷ s) (encoded_back r)
-encoded_back (at_least i d ∷ r) = ap (λ (s : Rule). at_least i d ∷ s) (encoded_back r)
+encoded_back : (r : Rule) → literals_in (encode_literals r) ≡ r
+unfolding literals_in
+encoded_back r = (rw append-nil at (encoded_more r [])) ∙ append-nil r
 
 pub encoded_written : (r : Rule) → Written (encode_literals r)
 encoded_written r = rw (encoded_back r)
@@ -35,11 +33,6 @@ encoded_written r = rw (encoded_back r)
 -- the rule again, in bytes that are equal to its own
 pub rule_back : {b : List ℕ} {r : Rule} → b ≡ encode_literals r → literals_in b ≡ r
 rule_back {b} {r} e = rw e (encoded_back r)
-
-pub encoded_length : (r : Rule) → length (encode_literals r) ≡ 3 * length r
-unfolding encode_literals
-encoded_length [] = refl
-encoded_length (c ∷ r) = omega (arith, encoded_length r)
 
 -- one literal
 literal_written : (y : List ℕ) → length y ≡ 3 → get_or y 1 0 < 2 → encode_literals (literal_at y 0 ∷ []) ≡ y

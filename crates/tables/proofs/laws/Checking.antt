@@ -135,9 +135,6 @@ module _ (ns : Sizes) (table : List ℕ) where
       next : t ≡ drop ((k + 1) * l) table
       next = rw (add-one, suc-mul k l, ← drop-drop, parts) (sym (drop_at y t l long))
 
-      pub checking_place : k * l + l ≤ length table
-      checking_place = ends
-
       -- what is found from this row on is found in it, or else in the rest
       value_is : (i : ℕ) → i < l → unless (ltb (at y i) (at ns i)) (Value (k * l + i)) ≡ try_high ns table (k * l + i)
       unfolding try_high

@@ -16,11 +16,11 @@ overflow_cast-space c = omega (arith, (page_limits _ _ c.in_ok-head.ensures _ _ 
 pub slice_bounds-space-end : goal.slice_bounds-space-end
 slice_bounds-space-end c = (page_limits _ _ c.in_ok-head.ensures _ _ _ _ refl).narrow
 
-pub slice_bounds-page_in-end : goal.slice_bounds-page_in-end
-slice_bounds-page_in-end c = lent_length _ _ (page_limits _ _ c.in_ok-head.ensures _ _ _ _ refl) _ refl
+pub slice_bounds-request-end : goal.slice_bounds-request-end
+slice_bounds-request-end c = lent_length _ _ (page_limits _ _ c.in_ok-head.ensures _ _ _ _ refl) _ refl
 
-pub page_in-requires : goal.page_in-requires
-page_in-requires c = page_standard _ _ c.in_ok-head.ensures _ _ _ _ refl
+pub try_list-requires : goal.try_list-requires
+try_list-requires c = page_standard _ _ c.in_ok-head.ensures _ _ _ _ refl
 
 pub returns : goal.returns
-returns c = page_read _ _ c.in_ok-head.ensures _ _ _ _ refl c.args.cursor c.args.budget c.args.room.now _ c.page_in.ensures
+returns c = page_read _ _ c.in_ok-head.ensures _ _ _ _ refl c.args.cursor c.args.budget c.args.room.now _ c.try_list.ensures

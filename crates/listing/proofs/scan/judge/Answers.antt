@@ -12,7 +12,7 @@ returns-then-last-cur c = rw c.forbids-none.ensures (search (judges_past, arith)
 pub interval-requires : goal.interval-requires
 interval-requires c =
     let s = c in
-    judged_inside _ _ _ s.requires.0 s.requires.1 s.requires.2 _ c.from-count.ensures c.if-count-eq0.false _ c.from-last.ensures _ c.early.ensures _ _ c.in-Left.is
+    judged_inside _ _ _ s.args.cur.plain s.requires.0 s.requires.1 _ c.from-count.ensures c.if-count-eq0.false _ c.from-last.ensures _ c.early.ensures _ _ c.in-Left.is
 
 pub returns-in-Holds : goal.returns-in-Holds
 returns-in-Holds c = rw c.forbids-none.ensures (search (judges_holds, arith))

@@ -4,4 +4,4 @@ use Rattle.listing.proofs.laws.Windows.{Scanning}
 use Rattle.listing.proofs.scan.scan.Given as goal
 
 abbrev pub invariant-loop-i : goal.invariant-loop-i
-invariant-loop-i l = Scanning l.book l.from (prefix_of l.cur) l.set l.rules l.allowed l.span l.at l.i
+invariant-loop-i l = Scanning l.book l.from (prefix_of l.cur.cursor) l.set l.rules l.allowed l.span l.at l.i

@@ -12,7 +12,7 @@ holds_in-requires c =
 pub loop-literal-preserved : goal.loop-literal-preserved
 loop-literal-preserved c =
     let s = c.in-Some.ensures.steps in
-    (s.0 ∙ c.loop-literal.invariant.0, rw c.from-k.ensures (number_on c.loop-literal.invariant.1 _ _ s.1.0 (s.1.1 ∙ c.loop-literal.invariant.0) _ c.holds_in.ensures).1)
+    (s.0 ∙ c.loop-literal.invariant.0, rw c.from-k.ensures (number_on c.loop-literal.invariant.1 _ _ s.1.0 (s.1.1 ∙ c.loop-literal.invariant.0) _ c.holds_in.ensures))
 
 pub returns : goal.returns
 returns c = let s = c.in-None.ensures.steps in number_end c.loop-literal.invariant.1 (omega (arith, s.1.0, c.loop-literal.invariant.0))

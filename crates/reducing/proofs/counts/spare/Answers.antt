@@ -6,12 +6,12 @@ use Rattle.reducing.proofs.counts.spare.Goals as goal
 pub returns-then-count-from : goal.returns-then-count-from
 returns-then-count-from c =
     let s = c.in-Some.ensures.steps in
-    spare_no c.loop-row.invariant.3 _ _ c.requires.0 s.0.1.0 (s.0.1.1 ∙ c.loop-row.invariant.2) _ _ s.1 _ c.holds_in.ensures (c.if-count-from.true ∙ c.from.ensures)
+    spare_no c.loop-row.invariant.3 _ _ c.args.rows.now.some s.0.1.0 (s.0.1.1 ∙ c.loop-row.invariant.2) _ _ s.1 _ c.holds_in.ensures (c.if-count-from.true ∙ c.from.ensures)
 
 pub loop-row-preserved : goal.loop-row-preserved
 loop-row-preserved c =
     let s = c.in-Some.ensures.steps in
-    (search rules, search rules, s.0.0 ∙ c.loop-row.invariant.2, spare_on c.loop-row.invariant.3 _ _ c.requires.0 s.0.1.0 (s.0.1.1 ∙ c.loop-row.invariant.2) _ _ s.1 _ c.holds_in.ensures (rw c.from.ensures at c.if-count-from.false))
+    (search rules, search rules, s.0.0 ∙ c.loop-row.invariant.2, spare_on c.loop-row.invariant.3 _ _ c.args.rows.now.some s.0.1.0 (s.0.1.1 ∙ c.loop-row.invariant.2) _ _ s.1 _ c.holds_in.ensures (rw c.from.ensures at c.if-count-from.false))
 
 pub returns : goal.returns
 returns c = elim c.in-None.ensures.steps [

@@ -1,18 +1,21 @@
 -- `reducing::counts::tally` meets its contract. The invariant: the numbers of the rows passed are written (ChangeFrom).
-use Rattle.std.proofs.Common.{rules, arith, ◌∙◌}
+use Rattle.std.proofs.Common.{arith, ◌∙◌}
 use Rattle.reducing.proofs.laws.Rows.{rows_on, rows_over}
 use Rattle.reducing.proofs.laws.Counted.{change_room, change_turn, change_end}
 use Rattle.reducing.proofs.counts.tally.Goals as goal
 
 pub bounds-counts-k : goal.bounds-counts-k
-bounds-counts-k c =
+bounds-counts-k c = let s = c.in-Some.ensures.steps in change_room c.loop-k.invariant.1 (rows_on _ _ c.args.rows.now.some s.1.0 (s.1.1 ∙ c.loop-k.invariant.0))
+
+pub overflow_step-k : goal.overflow_step-k
+overflow_step-k c =
     let s = c.in-Some.ensures.steps in
-    rw s.1 (change_room c.loop-k.invariant.3 (rows_on _ _ c.requires.0 s.0.1.0 (s.0.1.1 ∙ c.loop-k.invariant.2)))
+    omega (arith, change_room c.loop-k.invariant.1 (rows_on _ _ c.args.rows.now.some s.1.0 (s.1.1 ∙ c.loop-k.invariant.0)), c.loop-k.invariant.1.long, c.requires.0)
 
 pub loop-k-preserved : goal.loop-k-preserved
 loop-k-preserved c =
     let s = c.in-Some.ensures.steps in
-    (search rules, search rules, s.0.0 ∙ c.loop-k.invariant.2, rw (s.1, s.2) (change_turn c.loop-k.invariant.3 (rows_on _ _ c.requires.0 s.0.1.0 (s.0.1.1 ∙ c.loop-k.invariant.2)) c.number.ensures))
+    (s.0 ∙ c.loop-k.invariant.0, change_turn c.loop-k.invariant.1 (rows_on _ _ c.args.rows.now.some s.1.0 (s.1.1 ∙ c.loop-k.invariant.0)) c.number.ensures)
 
 pub returns : goal.returns
-returns c = let s = c.in-None.ensures.steps in change_end c.loop-k.invariant.3 (rows_over _ (omega (arith, s.0.1.0, c.loop-k.invariant.2)))
+returns c = let s = c.in-None.ensures.steps in change_end c.loop-k.invariant.1 (rows_over _ (omega (arith, s.1.0, c.loop-k.invariant.0)))

@@ -6,4 +6,4 @@ use Rattle.reducing.proofs.laws.Joined.{ExtremeFrom}
 use Rattle.reducing.proofs.sides.extreme.Given as goal
 
 abbrev pub invariant-loop-row : goal.invariant-loop-row
-invariant-loop-row l = (l.row-iterator.size ≡ l.l) × ExtremeFrom (side_of l.side) (literals_in l.literals) l.l l.table l.row-iterator.rest.now l.combined
+invariant-loop-row l = (l.row-iterator.size ≡ l.rows.l) × ExtremeFrom (side_of l.side) (literals_in l.literals) l.rows.l l.rows.table.now l.row-iterator.rest.now l.combined

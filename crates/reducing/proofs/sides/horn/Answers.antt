@@ -11,7 +11,7 @@ returns-then-scarces-lt2 c =
 
 pub extreme-combined-requires : goal.extreme-combined-requires
 extreme-combined-requires c =
-    (c.requires.l_low, c.requires.l_high, rw (rule_back c.literals-2.ensures.bytes, c.keep_for-common.ensures) (known_common _ _ _ c.requires.known))
+    rw (rule_back c.literals-2.ensures.bytes, c.keep_for-common.ensures) (known_common _ _ _ c.requires)
 
 pub returns : goal.returns
 returns c =

@@ -17,9 +17,9 @@ decreases-turn l = 2 * l.levels
 
 abbrev pub invariant-below-loop-point : goal.invariant-below-loop-point
 invariant-below-loop-point l =
-    Going (dead (rules_in l.self.book.now)) l.self.sizes.now l.cur l.levels l.self.fit l.self.budget l.fn.on.v l.fn.on.walk l.initial.room l.room l.point.walk l.point.v
+    Going (dead (rules_in l.self.book.now)) l.self.sizes.now l.cur.cursor l.levels l.self.fit l.self.budget l.fn.on.v l.fn.on.walk l.initial.room l.room l.point.walk l.point.v
     × Held l.self.book.now l.self.starts.now l.ends l.initial.places (length l.initial.hints) l.places (length l.hints)
-    × Looks l.self.book.now (dead (rules_in l.self.book.now)) (prefix_of l.cur) l.places l.self.starts.now l.ends l.point.v l.point.scan
+    × Looks l.self.book.now (dead (rules_in l.self.book.now)) (prefix_of l.cur.cursor) l.places l.self.starts.now l.ends l.point.v l.point.scan
 
 abbrev pub decreases-below-loop-point : goal.decreases-below-loop-point
 decreases-below-loop-point l = l.n - l.point.v

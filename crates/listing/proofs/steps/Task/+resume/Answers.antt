@@ -14,43 +14,43 @@ returns-then-lacks t c =
     let n = c.push-next.ensures in
     let b = c.below-then-lacks.ensures in
     let small = resume_small p.0 p.1 c.if-len-c.false in
-    let dead = sym (next_dead p.0 small.3 (looks_at small.3 c.look_if-scan.ensures) small.1 n _ c.from.ensures _ c.lacks.ensures) ∙ c.if-lacks.true in
-    (resume_skip _ _ _ _ _ _ _ _ _ p.0 p.1 p.3.live c.if-len-c.false _ n dead _ _ b.0, b.1)
+    let dead = sym (next_dead c.args.cur.plain p.0 small.3 (looks_at small.3 c.look-scan.ensures) small.1 n _ c.from.ensures _ c.lacks.ensures) ∙ c.if-lacks.true in
+    (resume_skip _ _ _ _ _ _ _ _ _ c.args.cur.plain p.0 p.1 p.3.live c.if-len-c.false _ n dead _ _ b.0, b.1)
 
-pub narrow_if-fronts-requires : goal.narrow_if-fronts-requires
-narrow_if-fronts-requires t c =
+pub narrow-fronts-requires : goal.narrow-fronts-requires
+narrow-fronts-requires t c =
     let p = c.requires in
-    ((resume_next p.0 p.1 c.if-len-c.false c.push-next.ensures).0.plain, p.0.limited.short, able_kept _ _ _ _ _ _ _ p.2 (kept_same _ _ _) c.look_if-scan.auto.hints)
+    (p.0.limited.short, able_kept _ _ _ _ _ _ _ p.2 (kept_same _ _ _) c.look-scan.auto.hints)
 
 pub resume-walk-requires : goal.resume-walk-requires
 resume-walk-requires t c =
     let p = c.requires in
     let n = c.push-next.ensures in
-    let s = c.look_if-scan in
-    let w = c.narrow_if-fronts in
+    let s = c.look-scan in
+    let w = c.narrow-fronts in
     let small = resume_small p.0 p.1 c.if-len-c.false in
     let more = resume_next p.0 p.1 c.if-len-c.false n in
     let look = looks_at small.3 s.ensures in
-    let live = sym (next_dead p.0 small.3 look small.1 n _ c.from.ensures _ c.lacks.ensures) ∙ c.if-lacks.false in
-    let opened = next_open p.0 small.3 look small.1 n _ _ (next_ruled p.0 small.3 look small.1 n) live _ _ w.ensures _ (omega (arith, p.2.hints, w.auto.hints, s.auto.hints)) in
+    let live = sym (next_dead c.args.cur.plain p.0 small.3 look small.1 n _ c.from.ensures _ c.lacks.ensures) ∙ c.if-lacks.false in
+    let opened = next_open c.args.cur.plain p.0 small.3 look small.1 n _ _ (next_ruled c.args.cur.plain p.0 small.3 look small.1 n) live _ _ w.ensures _ (omega (arith, p.2.hints, w.auto.hints, s.auto.hints)) in
     (omega (arith, small.3), (more.0, more.1, able_narrowed _ _ _ _ _ _ _ _ _ p.2 w.ensures (w.auto.hints ∙ s.auto.hints), opened))
 
 pub returns-then-self-walk : goal.returns-then-self-walk
 returns-then-self-walk t c =
     let p = c.requires in
     let r = c.resume-walk in
-    (resume_on _ _ _ _ _ _ _ _ _ p.0 p.1 p.3.live c.if-len-c.false _ c.push-next.ensures _ _ r.ensures.0 _ _ (sym (runs_shut _ _ _ _ _ _ (shut_steps _ _ r.result c.if-self-walk.true))), kept_below _ _ _ _ _ _ _ r.new.places _ p.2 c.narrow_if-fronts.ensures r.ensures.1)
+    (resume_on _ _ _ _ _ _ _ _ _ c.args.cur.plain p.0 p.1 p.3.live c.if-len-c.false _ c.push-next.ensures _ _ r.ensures.0 _ _ (sym (runs_shut _ _ _ _ _ _ (shut_steps _ _ r.result c.if-self-walk.true))), kept_below _ _ _ _ _ _ _ r.new.places _ p.2 c.narrow-fronts.ensures r.ensures.1)
 
 pub below-requires-2 : goal.below-requires-2
 below-requires-2 t c =
     let p = c.requires in
     let r = c.resume-walk in
-    let k = kept_below _ _ _ _ _ _ _ r.new.places _ p.2 c.narrow_if-fronts.ensures r.ensures.1 in
-    (ready_same _ _ _ _ _ _ p.0 r.auto.room, able_kept _ _ _ _ _ _ _ p.2 k (r.auto.hints ∙ c.narrow_if-fronts.auto.hints ∙ c.look_if-scan.auto.hints), looks_later k c.look_if-scan.ensures, omega (arith, (resume_small p.0 p.1 c.if-len-c.false).1))
+    let k = kept_below _ _ _ _ _ _ _ r.new.places _ p.2 c.narrow-fronts.ensures r.ensures.1 in
+    (ready_same _ _ _ _ _ _ p.0 r.auto.room, able_kept _ _ _ _ _ _ _ p.2 k (r.auto.hints ∙ c.narrow-fronts.auto.hints ∙ c.look-scan.auto.hints), looks_later k c.look-scan.ensures, omega (arith, (resume_small p.0 p.1 c.if-len-c.false).1))
 
 pub returns : goal.returns
 returns t c =
     let p = c.requires in
     let r = c.resume-walk in
     let b = c.below-2 in
-    (resume_on _ _ _ _ _ _ _ _ _ p.0 p.1 p.3.live c.if-len-c.false _ c.push-next.ensures _ _ r.ensures.0 _ _ b.ensures.0, kept_on _ _ _ _ _ (kept_below _ _ _ _ _ _ _ r.new.places _ p.2 c.narrow_if-fronts.ensures r.ensures.1) b.ensures.1)
+    (resume_on _ _ _ _ _ _ _ _ _ c.args.cur.plain p.0 p.1 p.3.live c.if-len-c.false _ c.push-next.ensures _ _ r.ensures.0 _ _ b.ensures.0, kept_on _ _ _ _ _ (kept_below _ _ _ _ _ _ _ r.new.places _ p.2 c.narrow-fronts.ensures r.ensures.1) b.ensures.1)

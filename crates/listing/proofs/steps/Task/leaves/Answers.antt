@@ -2,6 +2,7 @@ use native.Mathlib.Omega.{arith}
 use mathlib.Core.Logic.{inl, inr}
 use mathlib.Core.Path.{◌≡◌}
 use lib.ListN.{get_or}
+use Rattle.listing.proofs.laws.Steps.{flag_is}
 use Rattle.listing.proofs.laws.Leaves.{leafing_on, leafing_end}
 use Rattle.listing.proofs.steps.Task.leaves.Goals.{then-self-done-via-then-self-done, then-self-done-via-else-self-done+then-self-done-2}
 use Rattle.listing.proofs.steps.Task.leaves.Goals as goal
@@ -15,9 +16,9 @@ returns-then-self-done c = elim c.then-self-done.branch [
 pub loop-v-preserved : goal.loop-v-preserved
 loop-v-preserved c =
     let p = c.requires in
-    leafing_on _ _ _ _ _ _ _ _ p.0 p.1 c.loop-v.invariant c.loop-v-test.true c.if-self-done.false c.if-self-done-2.false _ p.2 _ c.from.ensures _ c.lacks.ensures _ _ c.leaf.ensures c.leaf.auto.room
+    leafing_on _ _ _ _ _ _ _ _ c.args.cur.plain p.0 p.1 c.loop-v.invariant c.loop-v-test.true c.if-self-done.false c.if-self-done-2.false _ p.2 _ c.from.ensures _ c.lacks-dead.ensures _ (flag_is _ _ c.from-in-loop-v.ensures) _ _ c.leaf.ensures c.leaf.auto.room
 
 pub returns : goal.returns
 returns c =
-    let e : get_or c.args.self.now.sizes.now c.args.cur.len 0 ≡ c.loop-v.v = omega (arith, c.requires.3, c.loop-v.auto.v-end, c.loop-v-test.false) in
+    let e : get_or c.args.self.now.sizes.now c.args.cur.cursor.len 0 ≡ c.loop-v.v = omega (arith, c.requires.3, c.loop-v.auto.v-end, c.loop-v-test.false) in
     leafing_end c.loop-v.invariant _ (rw e at c.behind-2.ensures) (inr c.loop-v-test.false)

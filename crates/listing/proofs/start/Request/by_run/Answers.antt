@@ -3,14 +3,14 @@ use native.Mathlib.Omega.{arith}
 use lib.ListN.{replicate}
 use Rattle.listing.proofs.laws.Starting.{start_ready, start_open, start_on}
 use Rattle.listing.proofs.laws.Sorting.{none_sorted}
-use Rattle.listing.proofs.start.by_run.Goals as goal
+use Rattle.listing.proofs.start.Request.by_run.Goals as goal
 
 pub resume-requires : goal.resume-requires
 resume-requires c =
     let p = c.requires in
     let r = c.beginning-root.ensures in
-    let ready = start_ready _ _ _ _ _ _ c.args.budget p.0 _ r in
-    let opened = start_open _ _ _ _ _ _ c.args.budget p.0 _ r p.1 _ _ _ _ _ (none_sorted _ _ (replicate 1 0)) 1 (omega arith) in
+    let ready = start_ready _ _ _ _ _ _ c.args.self.now.budget p.0 _ r in
+    let opened = start_open _ _ _ _ _ _ c.args.self.now.budget p.0 _ r p.1 _ _ _ _ _ (none_sorted _ _ (replicate 1 0)) 1 (omega arith) in
     (ready.0, ready.1, opened.0, opened.1)
 
 pub returns : goal.returns

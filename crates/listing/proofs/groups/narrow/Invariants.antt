@@ -1,7 +1,0 @@
-use lib.ListN.{length}
-use Rattle.listing.specs.Cursors.{prefix_of}
-use Rattle.listing.proofs.laws.Sifting.{Narrowing}
-use Rattle.listing.proofs.groups.narrow.Given as goal
-
-abbrev pub invariant-loop-g : goal.invariant-loop-g
-invariant-loop-g l = Narrowing l.book (prefix_of l.cur) l.initial.places l.starts l.initial.fronts l.places l.fronts (length l.initial.hints) (length l.hints) l.g
