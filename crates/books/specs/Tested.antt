@@ -3,6 +3,7 @@ use Rattle.std.specs.Prelude.{ℕ, suc, cond, List, [], ◌∷◌, ltb, eqb, len
 use Rattle.meaning.specs.Rows.{Row, Sizes, alike}
 use Rattle.meaning.specs.Rules.{Rule, met}
 use Rattle.meaning.specs.Bytes.{rules_in}
+use Rattle.literals.specs.Found.{found}
 use Rattle.books.specs.declared.Fault.{Fault}
 use Rattle.books.specs.declared.Head.{Head}
 use Rattle.books.specs.declared.Untested.{Untested}
@@ -27,16 +28,12 @@ Permitted = Ok None
 abbrev pub NotMet : ℕ → Result (Option ℕ) Untested
 NotMet k = Ok (Some k)
 
--- the place that a search came to, below c; none, where it came to c
-abbrev pub found : ℕ → ℕ → Option ℕ
-found k c = cond (ltb k c) (Some k) None
-
 -- a combination asked of rules over these sizes
 unfoldable pub judge_of : Sizes → List Rule → Row → Result (Option ℕ) Untested
 judge_of ns rs x =
     cond (eqb (length x) (length ns))
     (cond (ltb (first_over ns x) (length x)) (Err (Value (first_over ns x)))
-    (Ok (found (first_unmet rs x) (length rs))))
+    (Ok (found (length rs) (first_unmet rs x))))
     (Err Length)
 
 abbrev pub judge_read : List ℕ → Row → Result Head Fault → Result (Option ℕ) Untested

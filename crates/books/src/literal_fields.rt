@@ -53,11 +53,9 @@ impl Reader<'_> {
         ensures inside { IfOk result (λ v. (v ≡ from + 3 + 3 * c) × (v ≤ length self.now.book.now)) }
     {
         let mut low = 0;
-        let mut p = from + 3;
-        for _i in 0..c {
-            low = self.literal(from, low, p)?;
-            p += 3;
+        for k in 0..c {
+            low = self.literal(from, low, from + 3 + 3 * k)?;
         }
-        Ok(p)
+        Ok(from + 3 + 3 * c)
     }
 }

@@ -1,8 +1,9 @@
 // Testing a combination against a book: book faults, its length, its values, then the rules.
 ghost use Rattle.std.specs.Prelude.{◌≡◌, length};
 ghost use Rattle.meaning.specs.Bytes.{rules_at};
+ghost use Rattle.literals.specs.Found.{found};
 ghost use Rattle.books.specs.Inner.{Testable, Walkable};
-ghost use Rattle.books.specs.Tested.{judge_of, tested_of, first_unmet, first_over, found};
+ghost use Rattle.books.specs.Tested.{judge_of, tested_of, first_unmet, first_over};
 
 use crate::Untested;
 use crate::reader::{read, sixteen};
@@ -11,7 +12,7 @@ use literals::{rule_end, rule_met};
 // The place of the first value that is not below its setting's size; none, where all are.
 fn first_over(sizes: &[u8], combination: &[u8]) -> Option<usize>
     requires { length combination.now ≡ length sizes.now }
-    ensures { result ≡ found (first_over sizes.now combination.now) (length combination.now) }
+    ensures { result ≡ found (length combination.now) (first_over sizes.now combination.now) }
 {
     combination
         .iter()
@@ -23,7 +24,7 @@ fn first_over(sizes: &[u8], combination: &[u8]) -> Option<usize>
 #[tactic(auto, using(crate::proofs::laws::Asked::unmet_loop))]
 fn first_unmet(book: &[u8], rules: usize, combination: &[u8]) -> Option<usize>
     requires { Testable book.now combination.now 7 rules }
-    ensures { result ≡ found (first_unmet (rules_at book.now 7 rules) combination.now) rules }
+    ensures { result ≡ found rules (first_unmet (rules_at book.now 7 rules) combination.now) }
 {
     let mut p = 7;
     for k in 0..rules {

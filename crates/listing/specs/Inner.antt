@@ -431,15 +431,6 @@ pub record Along (ns : Sizes) (c cur : Cursor) (levels : ℕ) : Type 0 where
   pub deep : c.len ≤ cur.len + levels
   pub fits : (k : ℕ) → k < c.len → get_or c.values k 0 < get_or ns k 0
 
--- the rules of the book stand from place 7 on, the cursor is good, and so many rows fit
-pub record Resumes (b : List ℕ) (rules : ℕ) (ns : Sizes) (room : List ℕ) (c : Cursor) (fit : ℕ) : Type 0 where
-  pub limited : Sized ns
-  pub good : Good ns c
-  pub cells : fit * length ns ≤ length room
-  pub stand : AllStand b 7 rules
-  pub count : word_at b 5 ≡ rules
-  pub few : rules ≤ 24576
-
 -- ---- what is asked
 
 -- the rules of the book stand from place 7 on, and the sizes are within their limits
@@ -449,13 +440,6 @@ pub record Standard (b : List ℕ) (rules : ℕ) (ns : Sizes) : Type 0 where
   pub stand : AllStand b 7 rules
   pub count : word_at b 5 ≡ rules
   pub few : rules ≤ 24576
-
--- and no refusal is due
-pub record Starts (b : List ℕ) (rules : ℕ) (ns : Sizes) (c : Cursor) (o : List ℕ) (budget : ℕ) : Type 0 where
-  pub standard : Standard b rules ns
-  pub good : Good ns c
-  pub row : length ns ≤ length o
-  pub step : 1 ≤ budget
 
 unfoldable pub leaf_rows : Bool → ℕ → ℕ
 leaf_rows b rows = cond b rows (rows + 1)

@@ -71,7 +71,8 @@ impl Task<'_> {
     }
 
     // The values that may follow the live prefix cur, where `run` holds the rules that matter beside the fronts, and the run of rules that
-    // matter below it; nothing is looked at if no level is gone into.
+    // matter below it. If no level is gone into nothing is looked at, and the look is of nothing: an Option would have to be taken apart
+    // in skip, leaves and turn, though `below` has asked for the levels before.
     pub fn look(
         &self,
         places: &[u32],
@@ -138,7 +139,7 @@ impl Task<'_> {
         cur: Prefix,
         levels: usize,
     ) -> [u16; 16]
-        requires { (length self.now.sizes.now ≤ 16) × Narrowable self.now.book.now places.old self.now.starts.now ends (length hints.old) }
+        requires { Narrowable self.now.book.now places.old self.now.starts.now ends (length hints.old) }
         ensures { Narrowed self.now.book.now (prefix_of cur.cursor) places.old self.now.starts.now ends places.new result }
     {
         if levels == 0 || 3 < cur.cursor.len || self.starts[16] == 0 {

@@ -4,7 +4,7 @@ ghost use Rattle.meaning.specs.Bytes.{rules_in};
 ghost use Rattle.meaning.specs.Listing.{dead};
 ghost use Rattle.meaning.specs.Inner.{all_last};
 ghost use Rattle.listing.specs.Cursors.{prefix_of};
-ghost use Rattle.listing.specs.Inner.{Plain, finished_of, Standard, Starts};
+ghost use Rattle.listing.specs.Inner.{Plain, finished_of, Good};
 ghost use Rattle.listing.specs.declared.paging.Unlisted.TheVariants.{Faulty};
 ghost use Rattle.listing.specs.Pages.{P, beside, listed_in, page_in, page_of};
 
@@ -73,7 +73,7 @@ fn finished(sizes: &[u8], w: Walk) -> bool
 impl Request<'_> {
     // The page from a good cursor, with room for a row and a budget of a step: the last prefix visited, and what is shown.
     fn list(&self, room: &mut [u8]) -> (Cursor, Listed)
-        requires { Starts self.now.book.now self.now.rules self.now.sizes.now self.now.cursor room.old self.now.budget }
+        requires { Good self.now.sizes.now self.now.cursor × (length self.now.sizes.now ≤ length room.old) × (1 ≤ self.now.budget) }
         ensures { ◌≡◌ {A = P} (beside self.now.cursor (Ok result), room.new) (listed_in self.now.sizes.now (dead (rules_in self.now.book.now)) self.now.cursor self.now.budget room.old) }
     {
         let fit = room.len() / self.sizes.len();
@@ -88,7 +88,6 @@ impl Request<'_> {
 
     // The page: a bad cursor, no room for a row, and a budget outside its limits are refused, in this order.
     fn try_list(&self, room: &mut [u8]) -> Result<(Cursor, Listed), Unlisted>
-        requires { Standard self.now.book.now self.now.rules self.now.sizes.now }
         ensures { ◌≡◌ {A = P} (beside self.now.cursor result, room.new) (page_in self.now.sizes.now (dead (rules_in self.now.book.now)) self.now.cursor self.now.budget room.old) }
     {
         if !cursor_ok(self.sizes, self.cursor) {

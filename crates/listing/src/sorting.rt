@@ -21,16 +21,6 @@ pub struct Groups {
     pub left: usize,
 }
 
-// No space for any group.
-fn nothing() -> Bounds
-    ensures { Ladder result.starts result.ends }
-{
-    Bounds {
-        starts: [0u16; 17],
-        ends: [0u16; 16],
-    }
-}
-
 // One more, up to 4,096.
 fn more(count: u16) -> u16
     ensures { result ≤ count + 1 }
@@ -77,9 +67,9 @@ fn ladder(counts: [u16; 16]) -> Bounds
 
 // The space for the groups, by a look at the first 4,096 rules. None where nearly every rule has literals on all settings before its
 // last, as a general book's have: there what a prefix leaves open stands together, and a run is as quick.
-pub fn survey(book: &[u8], rules: usize) -> Bounds
+pub fn survey(book: &[u8], rules: usize) -> Option<Bounds>
     requires { AllStand book.now 7 rules }
-    ensures { Ladder result.starts result.ends }
+    ensures { IfSome result (λ b. Ladder b.starts b.ends) }
 {
     let most = rules.min(4096);
     let mut counts = [0u16; 16];
@@ -94,9 +84,9 @@ pub fn survey(book: &[u8], rules: usize) -> Bounds
         at = rule_end(book, at);
     }
     if usize::from(gaps) < most / 8 {
-        nothing()
+        None
     } else {
-        ladder(counts)
+        Some(ladder(counts))
     }
 }
 

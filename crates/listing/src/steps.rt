@@ -13,7 +13,7 @@ use crate::scan::Scanned;
 use crate::values::lacks;
 
 // What a page's walk goes by: the book, the sizes of its settings, the bounds of the groups, how many rows fit and how many steps may be
-// made. Nothing of it changes.
+// made. Nothing of it changes; the sizes are within their limits.
 #[derive(Clone, Copy)]
 pub struct Task<'a> {
     pub book: &'a [u8],
@@ -21,6 +21,7 @@ pub struct Task<'a> {
     pub starts: &'a [u16],
     pub fit: usize,
     pub budget: usize,
+    ghost sized: { Sized sizes.now },
 }
 
 // What a page has done so far: the last prefix visited and whether it is dead, 1 for yes, the rows written, the steps made. It is no
@@ -83,14 +84,14 @@ fn put_row(room: &mut [u8], at: usize, cur: Prefix, v: u8)
 }
 
 // One value v of the last setting: a row, if it is not dead; how many rows there are then.
-fn leaf(room: &mut [u8], rows: usize, cur: Prefix, v: u8, dead: bool, l: usize) -> usize
-    requires { (cur.cursor.len + 1 ≡ l) × (rows * l + cur.cursor.len < length room.old) × (rows < length room.old) }
-    ensures { (result ≡ leaf_rows dead rows) × (room.new ≡ leaf_room dead room.old (rows * l) (prefix_of cur.cursor) v) }
+fn leaf(room: &mut [u8], rows: usize, cur: Prefix, v: u8, dead: bool) -> usize
+    requires { (rows * (cur.cursor.len + 1) + cur.cursor.len < length room.old) × (rows < length room.old) }
+    ensures { (result ≡ leaf_rows dead rows) × (room.new ≡ leaf_room dead room.old (rows * (cur.cursor.len + 1)) (prefix_of cur.cursor) v) }
 {
     if dead {
         return rows;
     }
-    put_row(room, rows * l, cur, v);
+    put_row(room, rows * (cur.cursor.len + 1), cur, v);
     rows + 1
 }
 
@@ -98,7 +99,7 @@ fn leaf(room: &mut [u8], rows: usize, cur: Prefix, v: u8, dead: bool, l: usize) 
 impl Task<'_> {
     // Visits the dead values from on.v on, up to the first that is not, or as far as the budget goes.
     pub fn skip(&self, on: &Point, cur: Prefix) -> Point
-        requires { (cur.cursor.len < length self.now.sizes.now) × Sized self.now.sizes.now × Allows (dead (rules_in self.now.book.now)) (prefix_of cur.cursor) on.now.scan.allowed × (on.now.v ≤ get_or self.now.sizes.now cur.cursor.len 0) }
+        requires { (cur.cursor.len < length self.now.sizes.now) × Allows (dead (rules_in self.now.book.now)) (prefix_of cur.cursor) on.now.scan.allowed × (on.now.v ≤ get_or self.now.sizes.now cur.cursor.len 0) }
         ensures { Skips (dead (rules_in self.now.book.now)) self.now.sizes.now cur.cursor self.now.fit self.now.budget on.now.walk on.now.v result.walk result.v × (result.scan ≡ on.now.scan) }
     {
         if self.fit <= on.walk.rows {
@@ -130,7 +131,6 @@ impl Task<'_> {
         ensures { ◌≡◌ {A = S} (result, room.new) (runs (dead (rules_in self.now.book.now)) (length self.now.sizes.now) self.now.fit self.now.budget (from_of (dead (rules_in self.now.book.now)) (part self.now.sizes.now cur.cursor.len 1) (prefix_of cur.cursor) on.now.v) (on.now.walk, room.old)) }
     {
         let n = self.sizes[cur.cursor.len];
-        let l = self.sizes.len();
         let mut done = on.walk;
         for v in on.v..n {
             if self.fit <= done.rows || self.budget <= done.steps {
@@ -138,7 +138,7 @@ impl Task<'_> {
             }
             let dead = lacks(on.scan.allowed, usize::from(v));
             done.dead = usize::from(dead);
-            done.rows = leaf(room, done.rows, cur, v, dead, l);
+            done.rows = leaf(room, done.rows, cur, v, dead);
             done.steps += 1;
         }
         done.behind(cur, on.v, n)

@@ -1,5 +1,5 @@
 -- Inner: the words that only inner contracts cite.
-use Rattle.std.specs.Prelude.{ℕ, ◌+◌, ◌*◌, ◌≤◌, ◌<◌, Bool, cond, List, [], ◌∷◌, Option, Some, None, leb, ltb, eqb, length}
+use Rattle.std.specs.Prelude.{ℕ, ◌+◌, ◌*◌, ◌≤◌, ◌<◌, Bool, cond, List, [], ◌∷◌, leb, eqb, length}
 use Rattle.meaning.specs.Lists.{All}
 use Rattle.meaning.specs.Rules.{Rule, setting}
 use Rattle.meaning.specs.Bytes.{literal, literals_at}
@@ -14,10 +14,6 @@ literals_in (i ∷ g ∷ d ∷ b) = literal g i d ∷ literals_in b
 literals_in (i ∷ g ∷ []) = []
 literals_in (i ∷ []) = []
 literals_in [] = []
-
--- the number k of what is found among c; c stands for nothing found
-abbrev pub found : ℕ → ℕ → Option ℕ
-found c k = cond (ltb k c) (Some k) None
 
 -- every setting of the rule is one of l
 abbrev pub Known : ℕ → Rule → Type 0

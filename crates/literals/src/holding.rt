@@ -3,7 +3,8 @@ ghost use Rattle.std.specs.Prelude.{◌≡◌, ◌≤◌, ◌<◌, length, get_o
 ghost use Rattle.meaning.specs.Rules.{holds, met};
 ghost use Rattle.meaning.specs.Bytes.{literal_at};
 ghost use Rattle.meaning.specs.Inner.{first_held};
-ghost use Rattle.literals.specs.Inner.{holds_by, Known, literals_in, found};
+ghost use Rattle.literals.specs.Inner.{holds_by, Known, literals_in};
+ghost use Rattle.literals.specs.Found.{found};
 
 // Does the literal of this sign and bound hold of the value? The sign is a byte as it stands in a book, whatever it is.
 pub fn holds(sign: u8, bound: u8, value: u8) -> bool

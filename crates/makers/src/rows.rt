@@ -27,9 +27,7 @@ impl<'a> Source<'a> {
         requires { k < self.now.rows }
         ensures { result.now ≡ row (source_rows self.now) k }
     {
-        let at = k * self.sizes.len();
-        let end = at + self.sizes.len();
-        &self.table[at..end]
+        tables::rows::row(self.table, self.sizes.len(), k)
     }
 
     // The level at which row k - 1 and row k part: 0 before the first of the rows and after the last.

@@ -12,8 +12,9 @@ use Rattle.meaning.specs.Rows.{Row}
 use Rattle.meaning.specs.Rules.{met}
 use Rattle.meaning.specs.Bytes.{rule_at, end_at, rules_at}
 use Rattle.literals.specs.Inner.{Askable}
+use Rattle.literals.specs.Found.{found}
 use Rattle.literals.proofs.laws.Known.{fit_known}
-use Rattle.books.specs.Tested.{first_unmet, found}
+use Rattle.books.specs.Tested.{first_unmet}
 use Rattle.books.specs.Inner.{Testable}
 use Rattle.books.proofs.laws.Holds.{holds_good, holds_inside, holds_on}
 use Rattle.books.proofs.laws.First.{first_unmet_met, first_unmet_not}
@@ -41,7 +42,7 @@ module _ (b : List ℕ) (x : Row) (k : ℕ) where
     unfolding rules_at
     unmet_step = let e : k - i ≡ suc (k - (i + 1)) = omega arith in rw e
 
-    pub unmet_found : met (rule_at b p) x ≡ false → Some i ≡ found (first_unmet (rules_at b 7 k) x) k
+    pub unmet_found : met (rule_at b p) x ≡ false → Some i ≡ found k (first_unmet (rules_at b 7 k) x)
     unmet_found e =
         let u = first_unmet_not (rule_at b p) (rules_at b (end_at b p) (k - (i + 1))) x e in
         let w = rw unmet_step at a.whole in
@@ -59,7 +60,7 @@ module _ (b : List ℕ) (x : Row) (k : ℕ) where
           short = omega arith;
         })
 
-  pub unmet_end : (p i : ℕ) → UnmetAt b x k p i → k ≤ i → None ≡ found (first_unmet (rules_at b 7 k) x) k
+  pub unmet_end : (p i : ℕ) → UnmetAt b x k p i → k ≤ i → None ≡ found k (first_unmet (rules_at b 7 k) x)
   unfolding rules_at first_unmet
   unmet_end p i a h =
       let e : k - i ≡ 0 = omega arith in

@@ -13,7 +13,8 @@ use Rattle.std.specs.List.{zip, position_or_len}
 use Rattle.meaning.specs.Rows.{Row, Sizes, within}
 use Rattle.meaning.specs.Rules.{Rule, met, all_met}
 use Rattle.meaning.proofs.Tests.{case, is, isnt, yes_of}
-use Rattle.books.specs.Tested.{first_unmet, first_over, found}
+use Rattle.literals.specs.Found.{found}
+use Rattle.books.specs.Tested.{first_unmet, first_over}
 
 -- ---- rules
 
@@ -99,5 +100,5 @@ over_place (n ∷ ns) (v ∷ x) h = elim (case (ltb v n)) [
 ]
 
 pub first_over_pairs : (ns : Sizes) (x : Row) (r : Option ℕ) → length x ≡ length ns
-    → r ≡ found (position_or_len (λ (p : ℕ × ℕ). leb p.1 p.0) (zip x ns)) (length (zip x ns)) → r ≡ found (first_over ns x) (length x)
+    → r ≡ found (length (zip x ns)) (position_or_len (λ (p : ℕ × ℕ). leb p.1 p.0) (zip x ns)) → r ≡ found (length x) (first_over ns x)
 first_over_pairs ns x r h e = e ∙ rw (over_place ns x h, over_length ns x h)

@@ -11,26 +11,27 @@ use Rattle.std.specs.Prelude.{Option, Some, None, Result, Ok, Err}
 use Rattle.meaning.specs.Rows.{Row, Sizes, Limited}
 use Rattle.meaning.specs.Bytes.{rules_at}
 use Rattle.meaning.proofs.Limits.{lent, lent_length}
+use Rattle.literals.specs.Found.{found}
 use Rattle.books.specs.declared.Head.{Head}
 use Rattle.books.specs.declared.Untested.{Untested}
 use Rattle.books.specs.declared.Untested.TheVariants.{Length, Value}
 use Rattle.books.specs.Format.{read_of}
 use Rattle.books.specs.Inner.{Testable, Walkable}
-use Rattle.books.specs.Tested.{found, judge_of, tested_of, first_unmet, first_over}
+use Rattle.books.specs.Tested.{judge_of, tested_of, first_unmet, first_over}
 use Rattle.books.proofs.laws.Accepted.{Headed, headed, rules_at_length}
 use Rattle.books.proofs.laws.Holds.{holds_start}
 
 -- ---- the ways out
 
 -- what a search tells
-found_tells : (p k c : ℕ) → Some p ≡ found k c → (p ≡ k) × (k < c)
-found_tells p k c e = elim (dec_lt k c) [
+found_tells : (p c k : ℕ) → Some p ≡ found c k → (p ≡ k) × (k < c)
+found_tells p c k e = elim (dec_lt k c) [
   | yes h ↦ (let u = rw (lt-ltb k c h) at e in cc, h)
   | no h ↦ let u = rw (le-ltb k c (omega arith)) at e in absurd (cc)
 ]
 
-found_not : (k c : ℕ) → None ≡ found k c → c ≤ k
-found_not k c e = elim (dec_lt k c) [
+found_not : (c k : ℕ) → None ≡ found c k → c ≤ k
+found_not c k e = elim (dec_lt k c) [
   | yes h ↦ let u = rw (lt-ltb k c h) at e in absurd (cc)
   | no h ↦ omega arith
 ]
@@ -43,16 +44,16 @@ module _ (b : List ℕ) (ns : Sizes) (k : ℕ) (x : Row) where
   pub judge_testable : Walkable b ns k → length x ≡ length ns → Testable b x 7 k
   judge_testable w h = record { ns = ns; family = w.family; long = h; holds = w.holds }
 
-  pub judge_value : length x ≡ length ns → (p : ℕ) → Some p ≡ found (first_over ns x) (length x) → Err (Value p) ≡ judge_of ns (rules_at b 7 k) x
+  pub judge_value : length x ≡ length ns → (p : ℕ) → Some p ≡ found (length x) (first_over ns x) → Err (Value p) ≡ judge_of ns (rules_at b 7 k) x
   unfolding judge_of
   judge_value h p o =
-      let t = found_tells p (first_over ns x) (length x) o in
+      let t = found_tells p (length x) (first_over ns x) o in
       rw (eq-eqb (length x) (length ns) h, lt-ltb (first_over ns x) (length x) t.1, t.0)
 
-  pub judge_asked : length x ≡ length ns → None ≡ found (first_over ns x) (length x) → (r : Option ℕ) → r ≡ found (first_unmet (rules_at b 7 k) x) k → Ok r ≡ judge_of ns (rules_at b 7 k) x
+  pub judge_asked : length x ≡ length ns → None ≡ found (length x) (first_over ns x) → (r : Option ℕ) → r ≡ found k (first_unmet (rules_at b 7 k) x) → Ok r ≡ judge_of ns (rules_at b 7 k) x
   unfolding judge_of
   judge_asked h o r e =
-      rw (eq-eqb (length x) (length ns) h, le-ltb (first_over ns x) (length x) (found_not (first_over ns x) (length x) o), rules_at_length b 7 k, e)
+      rw (eq-eqb (length x) (length ns) h, le-ltb (first_over ns x) (length x) (found_not (length x) (first_over ns x) o), rules_at_length b 7 k, e)
 
 pub ruleset judge_steps = (judge_length, judge_testable, judge_value, judge_asked)
 

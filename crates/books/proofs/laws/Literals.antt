@@ -54,24 +54,29 @@ literal_tells b ns from low p v e =
       | no t ↦ (omega arith, let u = rw (le-ltb k low (omega arith)) at h in cc)
     ]
 
--- ---- the loop over the literals of a rule: c - i of them are left, from p on
-pub record LiteralsAt (b ns : List ℕ) (from c low p i : ℕ) : Type 0 where
-  pub whole : literals_of b ns from 0 (from + 3) c ≡ literals_of b ns from low p (c - i)
-  pub place : p ≡ from + 3 + 3 * i
-  pub inside : p ≤ length b
+-- ---- the loop over the literals of a rule: c - k of them are left
+pub record LiteralsAt (b ns : List ℕ) (from c low k : ℕ) : Type 0 where
+  pub whole : literals_of b ns from 0 (from + 3) c ≡ literals_of b ns from low (from + 3 + 3 * k) (c - k)
+  pub inside : from + 3 + 3 * k ≤ length b
 
-module _ (b ns : List ℕ) (from low p c i : ℕ) where
-  pub literals_fault : i < c → (f : Fault) → Err f ≡ literal_of b ns from low p → literals_of b ns from low p (c - i) ≡ Err f
-  unfolding literals_of
-  literals_fault h f e = let k : c - i ≡ suc (c - (i + 1)) = omega arith in rw (k, ← e)
+module _ (b ns : List ℕ) (from low c k : ℕ) where
+  abbrev p : ℕ
+  p = from + 3 + 3 * k
 
-  pub literals_on : i < c → (v : ℕ) → Ok v ≡ literal_of b ns from low p → literals_of b ns from low p (c - i) ≡ literals_of b ns from v (p + 3) (c - (i + 1))
+  pub literals_fault : k < c → (f : Fault) → Err f ≡ literal_of b ns from low p → literals_of b ns from low p (c - k) ≡ Err f
   unfolding literals_of
-  literals_on h v e = let k : c - i ≡ suc (c - (i + 1)) = omega arith in rw (k, ← e)
+  literals_fault h f e = let m : c - k ≡ suc (c - (k + 1)) = omega arith in rw (m, ← e)
 
-  pub literals_end : c ≤ i → literals_of b ns from low p (c - i) ≡ Ok p
+  pub literals_on : k < c → (v : ℕ) → Ok v ≡ literal_of b ns from low p → literals_of b ns from low p (c - k) ≡ literals_of b ns from v (from + 3 + 3 * (k + 1)) (c - (k + 1))
   unfolding literals_of
-  literals_end h = let k : c - i ≡ 0 = omega arith in rw k
+  literals_on h v e =
+      let m : c - k ≡ suc (c - (k + 1)) = omega arith in
+      let q : from + 3 + 3 * (k + 1) ≡ p + 3 = omega arith in
+      rw (m, q, ← e)
+
+  pub literals_end : k ≡ c → literals_of b ns from low p (c - k) ≡ Ok (from + 3 + 3 * c)
+  unfolding literals_of
+  literals_end h = let m : c - k ≡ 0 = omega arith in rw (m, h)
 
 pub ruleset literals_loop = (literals_fault, literals_on, literals_end)
 

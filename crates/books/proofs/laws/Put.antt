@@ -3,10 +3,10 @@ use Prim.Native.Nat.{ℕ, ◌+◌, ◌≤◌, ◌<◌}
 use native.Mathlib.Nat.{add-zero, zero-add}
 use native.Mathlib.Numerals.{add-one}
 use native.Mathlib.Omega.{arith}
-use mathlib.Core.Path.{◌≡◌, refl, sym, ap, ◌∙◌}
+use mathlib.Core.Path.{◌≡◌, sym, ap, ◌∙◌}
 use mathlib.Core.List.{List, [], ◌++◌, append_assoc}
 use lib.ListN.{length, get_or, take, drop, set, length-append, length-take, length-drop, length-set, take-append-drop}
-use lib.Seq.{take_at, take-length, drop_at, drop-drop, length-take-le, paste, paste-zero, paste-suc}
+use lib.Seq.{take_at, take-length, drop_at, drop-drop, length-take-le, paste, paste-suc}
 use borrow.Author.Tests.{le-leb, lt-leb}
 use Rattle.books.specs.Inner.{put_at, put_in}
 

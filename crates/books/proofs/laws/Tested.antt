@@ -14,8 +14,9 @@ use Rattle.meaning.specs.Rules.{met, all_met}
 use Rattle.meaning.specs.Bytes.{rules_in}
 use Rattle.meaning.proofs.Tests.{lt_or_le}
 use Rattle.meaning.proofs.Members.{within_length}
+use Rattle.literals.specs.Found.{found}
 use Rattle.books.specs.Format.{Book, read_of}
-use Rattle.books.specs.Tested.{Permitted, NotMet, found, judge_of, tested_of, first_unmet, first_over}
+use Rattle.books.specs.Tested.{Permitted, NotMet, judge_of, tested_of, first_unmet, first_over}
 use Rattle.books.proofs.laws.First.{first_unmet_most, first_unmet_all, first_unmet_before, first_unmet_at, first_over_all}
 
 -- ---- what the answer says, for an accepted book
@@ -29,7 +30,7 @@ module _ (b : List ℕ) (x : Row) (n l family k : ℕ) (h : read_of b ≡ Book n
     abbrev u : ℕ
     u = first_unmet (rules_in b) x
 
-    tested_within : tested_of b x ≡ Ok (found u (length (rules_in b)))
+    tested_within : tested_of b x ≡ Ok (found (length (rules_in b)) u)
     unfolding judge_of
     tested_within =
         let e : length x ≡ length (alike n l) = within_length (alike n l) x w in

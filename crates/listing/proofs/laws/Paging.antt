@@ -18,7 +18,7 @@ use Rattle.meaning.proofs.Paged.{front_none, page_reached, page_begins}
 use Rattle.listing.specs.declared.cursor.Cursor.{Cursor}
 use Rattle.listing.specs.declared.steps.Walk.{Walk}
 use Rattle.std.specs.Prelude.{Ok}
-use Rattle.listing.specs.Inner.{Plain, finished_of, past_of, S, runs, Starts, flag}
+use Rattle.listing.specs.Inner.{Plain, finished_of, past_of, S, runs, Good, Standard, flag}
 use Rattle.listing.specs.Cursors.{prefix_of, cursor_of}
 use Rattle.listing.specs.Pages.{P, listed_in}
 use Rattle.listing.proofs.laws.Prefixes.{prefix_cursor, cursor_len, plain_cursor, begins_length}
@@ -70,7 +70,7 @@ module _ (ns : Sizes) (d : Row → Bool) (p : Row) (fit budget : ℕ) (o : List 
           ∙ flip (eqb (length q) (length ns)) (d q) (all_last ns q)
           ∙ sym (reached_last ns d q some v)
 
-module _ (b : List ℕ) (rules : ℕ) (ns : Sizes) (c : Cursor) (o : List ℕ) (budget : ℕ) (y : Starts b rules ns c o budget) where
+module _ (b : List ℕ) (rules : ℕ) (ns : Sizes) (c : Cursor) (o : List ℕ) (budget : ℕ) (y : Standard b rules ns) (good : Good ns c) (row : length ns ≤ length o) (step : 1 ≤ budget) where
   abbrev d : Row → Bool
   d = dead (rules_in b)
 
@@ -78,7 +78,7 @@ module _ (b : List ℕ) (rules : ℕ) (ns : Sizes) (c : Cursor) (o : List ℕ) (
   fit = length o / length ns
 
   some_fit : 1 ≤ fit
-  some_fit = (le-div_iff_mul-le {k = length ns} {x = 1} {y = length o} y.standard.settings).1 (omega (arith, y.row))
+  some_fit = (le-div_iff_mul-le {k = length ns} {x = 1} {y = length o} y.settings).1 (omega (arith, row))
 
   module _ (w : Walk) (o' : List ℕ)
       (h : ◌≡◌ {A = S} (w, o') (runs d (length ns) fit budget (past_of d ns [] (prefix_of c)) (record { last = c; dead = 0; rows = 0; steps = 0 }, o))) where
@@ -87,20 +87,20 @@ module _ (b : List ℕ) (rules : ℕ) (ns : Sizes) (c : Cursor) (o : List ℕ) (
 
     walked : ◌≡◌ {A = S} (w, o') (filled_of ns d (prefix_of c) seen o)
     walked =
-        h ∙ ap (λ (L : List Row). runs d (length ns) fit budget L (record { last = c; dead = 0; rows = 0; steps = 0 }, o)) (past_after d ns (prefix_of c) y.good.fits)
-        ∙ page_filled ns d fit budget (after ns d (prefix_of c)) c o y.good.plain (div-mul-le_self (length o) (length ns))
+        h ∙ ap (λ (L : List Row). runs d (length ns) fit budget L (record { last = c; dead = 0; rows = 0; steps = 0 }, o)) (past_after d ns (prefix_of c) good.fits)
+        ∙ page_filled ns d fit budget (after ns d (prefix_of c)) c o good.plain (div-mul-le_self (length o) (length ns))
 
     pub listed_last : Plain w.last × (w.last.len ≤ length ns)
     listed_last =
         let q : Row = last_or (prefix_of c) seen in
         let e : w.last ≡ cursor_of q = ap (λ (t : S). t.0.last) walked in
-        let i = begins_length ns q (page_begins ns d fit budget (prefix_of c) y.good.fits) in
-        (rw e (plain_cursor q (omega (arith, y.standard.limited.short))), omega (arith, ap (λ (x : Cursor). x.len) e ∙ cursor_len q))
+        let i = begins_length ns q (page_begins ns d fit budget (prefix_of c) good.fits) in
+        (rw e (plain_cursor q (omega (arith, y.limited.short))), omega (arith, ap (λ (x : Cursor). x.len) e ∙ cursor_len q))
 
     pub listed_page : (f : Bool) → f ≡ finished_of ns w
         → ◌≡◌ {A = P} (record { cursor = w.last; outcome = Ok (record { rows = w.rows; steps = w.steps; finished = f }) }, o') (listed_in ns d c budget o)
     unfolding listed_in
     listed_page f g =
-        let g' = g ∙ ap (λ (t : S). finished_of ns t.0) walked ∙ finished_is ns d (prefix_of c) fit budget o (some_values ns y.standard.limited) some_fit y.step in
+        let g' = g ∙ ap (λ (t : S). finished_of ns t.0) walked ∙ finished_is ns d (prefix_of c) fit budget o (some_values ns y.limited) some_fit step in
         ap (λ (u : Bool). (record { cursor = w.last; outcome = Ok (record { rows = w.rows; steps = w.steps; finished = u }) }, o')) g'
         ∙ ap (λ (t : S). (record { cursor = t.0.last; outcome = Ok (record { rows = t.0.rows; steps = t.0.steps; finished = is_nil (after ns d (last_or (prefix_of c) seen)) }) }, t.1)) walked

@@ -20,7 +20,7 @@ use Rattle.books.proofs.laws.Accepted.{headed}
 use Rattle.listing.specs.declared.cursor.Cursor.{Cursor}
 use Rattle.listing.specs.declared.paging.Unlisted.TheVariants.{BadCursor, NoRoom, BadBudget, Faulty}
 use Rattle.meaning.proofs.Limits.{lent_sized}
-use Rattle.listing.specs.Inner.{Tested, Standard, Starts}
+use Rattle.listing.specs.Inner.{Tested, Good, Standard}
 use Rattle.listing.specs.Cursors.{cursor_ok}
 use Rattle.listing.proofs.laws.Prefixes.{good_of}
 use Rattle.listing.proofs.laws.Standing.{stand_all}
@@ -52,8 +52,8 @@ module _ (ns : Sizes) (d : Row → Bool) (c : Cursor) (budget : ℕ) (o : List �
         unfolding page_in
         page_listed m x q = q ∙ sym (rw (ok, le-ltb (length o) (length ns) r, ne_eqb budget 0 e, le-ltb 65535 budget m))
 
-        pub page_starts : (b : List ℕ) (rules : ℕ) → Standard b rules ns → Starts b rules ns c o budget
-        page_starts b rules s = record { standard = s; good = good_of ns c s.limited.short (k.sixteen h) ok; row = r; step = omega arith }
+        pub page_starts : length ns ≤ 16 → Good ns c × (length ns ≤ length o) × (1 ≤ budget)
+        page_starts s = (good_of ns c s (k.sixteen h) ok, r, omega arith)
 
 -- ---- by what reading the book gives
 

@@ -25,15 +25,6 @@ zeros n g h = get_or-replicate n g 0 0 h
 long : (n : ℕ) → length (zero_list n) ≡ n
 long n = length-replicate n 0
 
-pub ladder_none : Ladder (zero_list 17) (zero_list 16)
-ladder_none = record {
-  starts = long 17;
-  ends = long 16;
-  up = λ g h. omega (arith, zeros 17 g (omega arith));
-  top = λ g h. omega (arith, zeros 17 (g + 1) (omega arith));
-  none = λ g h. zeros 16 g h ∙ sym (zeros 17 g (omega arith));
-}
-
 -- the bounds of the groups before g are known, and group g begins at `from`
 pub record Building (s e : List ℕ) (from g : ℕ) : Type 0 where
   pub starts : length s ≡ 17

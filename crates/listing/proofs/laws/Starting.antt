@@ -1,5 +1,5 @@
 -- Starting: what a page's walk asks at its start, and the start itself: a rule without literals ends it, else it resumes from the root.
-use Prim.Native.Nat.{ℕ, zero, suc, ◌+◌, ◌-◌, ◌≤◌, ◌<◌}
+use Prim.Native.Nat.{ℕ, zero, suc, ◌+◌, ◌-◌, ◌*◌, ◌≤◌, ◌<◌}
 use native.Mathlib.Nat.{sub-zero}
 use native.Mathlib.Omega.{arith}
 use mathlib.Core.Path.{◌≡◌, sym, ap, ◌∙◌}
@@ -14,7 +14,7 @@ use Rattle.meaning.specs.Bytes.{literal_at, literals_at, end_at, rules_at, rules
 use Rattle.meaning.specs.Listing.{decided, dead}
 use Rattle.listing.specs.declared.cursor.Cursor.{Cursor}
 use Rattle.listing.specs.declared.steps.Walk.{Walk}
-use Rattle.listing.specs.Inner.{Stands, AllStand, Ruled, Open, Narrowable, Sorted, past_of, S, runs, Ready, Along, Resumes}
+use Rattle.listing.specs.Inner.{Stands, AllStand, Ruled, Open, Narrowable, Sorted, past_of, S, runs, Ready, Along, Good, Standard}
 use Rattle.listing.specs.Cursors.{prefix_of, cursor_of}
 use Rattle.listing.proofs.laws.Prefixes.{plain_length, begins_at}
 use Rattle.listing.proofs.laws.Grouping.{grouped_ruled}
@@ -70,7 +70,7 @@ module _ (b : List ℕ) (rules at i : ℕ) (y : Seeking b rules at i) where
 
 -- ---- the start
 
-module _ (b : List ℕ) (rules : ℕ) (ns : Sizes) (room : List ℕ) (c : Cursor) (fit budget : ℕ) (y : Resumes b rules ns room c fit) where
+module _ (b : List ℕ) (rules : ℕ) (ns : Sizes) (room : List ℕ) (c : Cursor) (fit budget : ℕ) (y : Standard b rules ns) (good : Good ns c) (cells : fit * length ns ≤ length room) where
   abbrev d : Row → Bool
   d = dead (rules_in b)
 
@@ -98,12 +98,12 @@ module _ (b : List ℕ) (rules : ℕ) (ns : Sizes) (room : List ℕ) (c : Cursor
 
     pub start_ready : Ready ns room root (length ns) fit × Along ns c root (length ns)
     start_ready = (
-      record { cells = y.cells; deep = omega (arith, root_len); limited = y.limited },
+      record { cells = cells; deep = omega (arith, root_len); limited = y.limited },
       record {
-        plain = y.good.plain;
+        plain = good.plain;
         here = omega (arith, root_len);
-        deep = omega (arith, y.good.deep, root_len);
-        fits = λ k h. rw (get_or-take c.len c.values k 0 h) at (begins_at ns (prefix_of c) y.good.fits k (omega (arith, plain_length c y.good.plain)));
+        deep = omega (arith, good.deep, root_len);
+        fits = λ k h. rw (get_or-take c.len c.values k 0 h) at (begins_at ns (prefix_of c) good.fits k (omega (arith, plain_length c good.plain)));
       },
     )
 

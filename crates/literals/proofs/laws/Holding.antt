@@ -17,7 +17,8 @@ use Rattle.meaning.specs.Bytes.{literal, literal_at}
 use Rattle.meaning.specs.Inner.{first_held}
 use Rattle.meaning.proofs.Literals.{literal_setting_is}
 use Rattle.meaning.proofs.MetLaws.{met_held}
-use Rattle.literals.specs.Inner.{holds_by, literals_in, found, Known}
+use Rattle.literals.specs.Inner.{holds_by, literals_in, Known}
+use Rattle.literals.specs.Found.{found}
 use Rattle.literals.proofs.laws.Chunks.{literals_first, literals_over}
 
 -- ---- one literal

@@ -1,12 +1,12 @@
 -- Parts: a row as a part of a flat table, and where two rows part.
-use Prim.Native.Nat.{ℕ, zero, suc, ◌+◌, ◌*◌, ◌-◌, ◌≤◌, ◌<◌}
+use Prim.Native.Nat.{ℕ, zero, suc, ◌+◌, ◌-◌, ◌≤◌, ◌<◌}
 use native.Mathlib.Omega.{arith}
 use mathlib.Core.Path.{◌≡◌, refl, sym, ap, ◌∙◌}
 use mathlib.Core.Logic.{◌≢◌, inl, inr}
 use mathlib.Core.Bool.{Bool, true, false, cond}
 use mathlib.Core.List.{[], ◌∷◌}
 use lib.Dec.{eqb, ltb}
-use lib.ListN.{length, take, drop}
+use lib.ListN.{length}
 use Rattle.std.proofs.Common.{not, Option, Some, None, unwrap_or}
 use Rattle.std.specs.List.{position_or_len, zip}
 use Rattle.std.proofs.lemmas.Slice.Zip.{length-zip}
@@ -14,7 +14,9 @@ use Rattle.meaning.proofs.Tests.{lt_or_le}
 use borrow.Author.Tests.{lt-ltb, le-ltb}
 use Rattle.meaning.specs.Rows.{Row, row}
 use Rattle.meaning.specs.General.{split, fork}
-use Rattle.meaning.proofs.Flat.{rows_count, row_bytes, row_length}
+use Rattle.meaning.proofs.Flat.{rows_count, row_length}
+use Rattle.tables.specs.Inner.{Known}
+use Rattle.tables.proofs.laws.Combining.{is_known}
 use Rattle.makers.specs.declared.rows.Source.{Source}
 use Rattle.makers.specs.Inner.{source_rows}
 
@@ -24,11 +26,8 @@ pub rows_counted : (s : Source) → length (source_rows s) ≡ s.rows
 rows_counted s = rows_count (length s.sizes.now) s.table.now ∙ sym s.given.count
 
 module _ (s : Source) (k : ℕ) (known : k < s.rows) where
-  pub row_part : take (k * length s.sizes.now + length s.sizes.now - k * length s.sizes.now) (drop (k * length s.sizes.now) s.table.now) ≡ row (source_rows s) k
-  row_part =
-      let l = length s.sizes.now in
-      let e : k * l + l - k * l ≡ l = omega arith in
-      rw e (sym (row_bytes l s.table.now k (omega (arith, s.given.count))))
+  pub row_known : Known (length s.sizes.now) s.table.now k
+  row_known = is_known (length s.sizes.now) s.table.now k (omega (arith, s.given.count))
 
   pub row_width : (m : Row) → m ≡ row (source_rows s) k → length m ≡ length s.sizes.now
   row_width m e = ap length e ∙ row_length (length s.sizes.now) s.table.now k (omega (arith, s.given.count))

@@ -19,8 +19,8 @@ slice_bounds-space-end c = (page_limits _ _ c.in_ok-head.ensures _ _ _ _ refl).n
 pub slice_bounds-request-end : goal.slice_bounds-request-end
 slice_bounds-request-end c = lent_length _ _ (page_limits _ _ c.in_ok-head.ensures _ _ _ _ refl) _ refl
 
-pub try_list-requires : goal.try_list-requires
-try_list-requires c = page_standard _ _ c.in_ok-head.ensures _ _ _ _ refl
+pub invariant_of-request : goal.invariant_of-request
+invariant_of-request c = record { standard = page_standard _ _ c.in_ok-head.ensures _ _ _ _ refl }
 
 pub returns : goal.returns
 returns c = page_read _ _ c.in_ok-head.ensures _ _ _ _ refl c.args.cursor c.args.budget c.args.room.now _ c.try_list.ensures

@@ -2,5 +2,5 @@
 use Rattle.books.proofs.laws.Literals.{LiteralsAt}
 use Rattle.books.proofs.rules.Reader.literals.Given as goal
 
-abbrev pub invariant-loop-i : goal.invariant-loop-i
-invariant-loop-i l = LiteralsAt l.self.book.now l.self.sizes.now l.from l.c l.low l.p l._i
+abbrev pub invariant-loop-k : goal.invariant-loop-k
+invariant-loop-k l = LiteralsAt l.self.book.now l.self.sizes.now l.from l.c l.low l.k

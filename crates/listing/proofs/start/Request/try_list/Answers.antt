@@ -16,7 +16,7 @@ returns-then-budget-eq0 c = page_no_budget _ _ _ _ _ _ c.cursor_ok.ensures c.if-
 
 pub list-requires : goal.list-requires
 list-requires c =
-    page_starts _ (dead (rules_in c.args.self.now.book.now)) _ _ _ _ c.cursor_ok.ensures c.if-not-cursor_ok.false c.if-room-self.false c.if-budget-eq0.false _ _ c.requires
+    page_starts _ (dead (rules_in c.args.self.now.book.now)) _ _ _ _ c.cursor_ok.ensures c.if-not-cursor_ok.false c.if-room-self.false c.if-budget-eq0.false c.args.self.now.standard.limited.short
 
 pub returns : goal.returns
 returns c = page_listed _ _ _ _ _ _ c.cursor_ok.ensures c.if-not-cursor_ok.false c.if-room-self.false c.if-budget-eq0.false c.if-budget-gt65535.false _ c.list.ensures

@@ -18,9 +18,7 @@ returns-then-lacks t c =
     (resume_skip _ _ _ _ _ _ _ _ _ c.args.cur.plain p.0 p.1 p.3.live c.if-len-c.false _ n dead _ _ b.0, b.1)
 
 pub narrow-fronts-requires : goal.narrow-fronts-requires
-narrow-fronts-requires t c =
-    let p = c.requires in
-    (p.0.limited.short, able_kept _ _ _ _ _ _ _ p.2 (kept_same _ _ _) c.look-scan.auto.hints)
+narrow-fronts-requires t c = able_kept _ _ _ _ _ _ _ c.requires.2 (kept_same _ _ _) c.look-scan.auto.hints
 
 pub resume-walk-requires : goal.resume-walk-requires
 resume-walk-requires t c =

@@ -16,7 +16,7 @@ returns-then-self-done c = elim c.then-self-done.branch [
 pub loop-v-preserved : goal.loop-v-preserved
 loop-v-preserved c =
     let p = c.requires in
-    leafing_on _ _ _ _ _ _ _ _ c.args.cur.plain p.0 p.1 c.loop-v.invariant c.loop-v-test.true c.if-self-done.false c.if-self-done-2.false _ p.2 _ c.from.ensures _ c.lacks-dead.ensures _ (flag_is _ _ c.from-in-loop-v.ensures) _ _ c.leaf.ensures c.leaf.auto.room
+    leafing_on _ _ _ _ _ _ _ _ c.args.cur.plain p.0 p.1 c.loop-v.invariant c.loop-v-test.true c.if-self-done.false c.if-self-done-2.false _ p.2 _ c.from.ensures _ c.lacks-dead.ensures _ (flag_is _ _ c.from-in-loop-v.ensures) _ _ (rw p.1 at c.leaf.ensures) c.leaf.auto.room
 
 pub returns : goal.returns
 returns c =

@@ -5,9 +5,8 @@ use Rattle.listing.proofs.steps.Task.narrow.Goals as goal
 
 pub sift-k-requires : goal.sift-k-requires
 sift-k-requires c =
-    let p = c.requires in
     let y = c.loop-g.invariant in
-    narrowing_next _ _ _ _ _ _ _ _ _ _ y (omega (arith, p.0, c.loop-g-test.true)) _ _ c.from-from.ensures c.from-end.ensures
+    narrowing_next _ _ _ _ _ _ _ _ _ _ y (omega (arith, c.args.self.now.sized.short, c.loop-g-test.true)) _ _ c.from-from.ensures c.from-end.ensures
 
 pub loop-g-preserved : goal.loop-g-preserved
-loop-g-preserved c = narrowing_on _ _ _ _ _ _ _ _ _ _ c.loop-g.invariant (omega (arith, c.requires.0, c.loop-g-test.true)) _ _ c.from-from.ensures c.from-end.ensures _ _ c.sift-k.ensures _ c.sift-k.auto.hints
+loop-g-preserved c = narrowing_on _ _ _ _ _ _ _ _ _ _ c.loop-g.invariant (omega (arith, c.args.self.now.sized.short, c.loop-g-test.true)) _ _ c.from-from.ensures c.from-end.ensures _ _ c.sift-k.ensures _ c.sift-k.auto.hints

@@ -1,6 +1,6 @@
--- `makers::rows::Source::row` meets its contract: the bytes of row k of a flat table.
-use Rattle.makers.proofs.laws.Parts.{row_part}
+-- `makers::rows::Source::row` meets its contract: the row stands within the table (row_known).
+use Rattle.makers.proofs.laws.Parts.{row_known}
 use Rattle.makers.proofs.rows.Source.row.Goals as goal
 
-pub returns : goal.returns
-returns c = search row_part
+pub row-requires : goal.row-requires
+row-requires c = row_known c.args.self.now _ c.requires
