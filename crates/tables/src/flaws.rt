@@ -1,57 +1,70 @@
 // The check of a table: refusals 1 to 5, in their order.
-ghost use Rattle.std.specs.Prelude.{◌≡◌, ◌+◌, ◌/◌, ◌%◌, ◌≤◌, ◌<◌, ◌^◌, MatchOption, true, length};
-ghost use Rattle.meaning.specs.Rows.{Limited, before};
-ghost use Rattle.tables.specs.Check.{row_flaw_of, flaw_of, answer, checked_of};
+ghost use Rattle.std.specs.Prelude.{◌≡◌, suc, ◌+◌, ◌*◌, ◌/◌, ◌%◌, ◌≤◌, ◌<◌, ◌^◌, length};
+ghost use Rattle.meaning.specs.Rows.{Limited, before, row, rows_of};
+ghost use Rattle.tables.specs.Check.{first_high, first_low, row_flaw_of, flaw_of, answer, checked_of};
 ghost use Rattle.tables.specs.Inner.{passed_of, value_flaw};
 
 use crate::Flaw;
+use crate::order::order;
+use crate::rows::row;
 use literals::limits;
 
-// Refusal 4 for the row whose values stand from `at` on: each is to be below its setting's size.
-fn check_values(sizes: &[u8], row: &[u8], at: usize) -> Result<(), Flaw>
-    requires { (length row.now ≡ length sizes.now) × (at + length sizes.now < 2 ^ 64) }
-    ensures { result ≡ passed_of (value_flaw sizes.now row.now at) }
+// Refusal 4 for row k: each value is to be below its setting's size.
+fn check_values(sizes: &[u8], row: &[u8], k: usize) -> Result<(), Flaw>
+    requires { (length row.now ≡ length sizes.now) × (k * length sizes.now + length sizes.now < 2 ^ 64) }
+    ensures { result ≡ passed_of (value_flaw sizes.now row.now (k * length sizes.now)) }
 {
     match row
         .iter()
         .zip(sizes)
         .position(|(value, size)| size <= value)
     {
-        Some(i) => Err(Flaw::Value(at + i)),
+        Some(i) => Err(Flaw::Value(k * sizes.len() + i)),
         None => Ok(()),
     }
 }
 
-// Is the row above the one before it? The first row has none.
-#[tactic(auto, using(crate::proofs::laws::Compare::before_tested))]
-fn rises(last: Option<&[u8]>, row: &[u8]) -> bool
-    ensures { MatchOption last.entry (result ≡ true) (λ l. result ≡ before l.now row.now) }
+// Refusal 4: each value of the table is to be below its setting's size.
+fn check_all_values(sizes: &[u8], table: &[u8]) -> Result<(), Flaw>
+    requires { (0 < length sizes.now) × (length table.now % length sizes.now ≡ 0) }
+    ensures { result ≡ passed_of (first_high sizes.now table.now) }
 {
-    match last {
-        Some(last) => last < row,
-        None => true,
+    for (k, row) in table.chunks_exact(sizes.len()).enumerate() {
+        check_values(sizes, row, k)?;
+    }
+    Ok(())
+}
+
+// Is row k + 1 above row k?
+#[tactic(auto, using(crate::proofs::laws::Compare::before_is))]
+fn rises(table: &[u8], l: usize, k: usize) -> bool
+    requires { suc k < length table.now / l }
+    ensures { result ≡ before (row (rows_of l table.now) k) (row (rows_of l table.now) (suc k)) }
+{
+    order(row(table, l, k), row(table, l, k + 1)).is_lt()
+}
+
+// Refusal 5: each row is to be above the one before it.
+fn check_order(table: &[u8], l: usize) -> Result<(), Flaw>
+    requires { 0 < l }
+    ensures { result ≡ passed_of (first_low (rows_of l table.now)) }
+{
+    let steps = (table.len() / l).saturating_sub(1);
+    match (0..steps).find(|k| !rises(table, l, *k)) {
+        Some(k) => Err(Flaw::Order(k + 1)),
+        None => Ok(()),
     }
 }
 
-// Refusals 4 and 5, in one pass over the rows: the first value too high decides at once, the first row too low at the end.
+// Refusals 4 and 5: a value too high decides, wherever it stands, before a row too low.
 fn check_rows(sizes: &[u8], table: &[u8]) -> Result<usize, Flaw>
     requires { (0 < length sizes.now) × (length table.now % length sizes.now ≡ 0) }
     ensures { result ≡ answer (length table.now / length sizes.now) (row_flaw_of sizes.now table.now) }
 {
     let l = sizes.len();
-    let mut low = None;
-    let mut last = None;
-    for (k, row) in table.chunks_exact(l).enumerate() {
-        check_values(sizes, row, k * l)?;
-        if low.is_none() && !rises(last, row) {
-            low = Some(k);
-        }
-        last = Some(row);
-    }
-    match low {
-        Some(k) => Err(Flaw::Order(k)),
-        None => Ok(table.len() / l),
-    }
+    check_all_values(sizes, table)?;
+    check_order(table, l)?;
+    Ok(table.len() / l)
 }
 
 // Refusals 2 to 5, over a size for each setting.

@@ -7,6 +7,7 @@ pub mod closures;
 pub mod combine;
 pub mod flaws;
 pub mod lookup;
+pub mod order;
 pub mod rows;
 
 pub use closures::open_rows;

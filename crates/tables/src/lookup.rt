@@ -3,6 +3,7 @@ ghost use Rattle.std.specs.Prelude.{◌≡◌, length};
 ghost use Rattle.meaning.specs.Rows.{is_row, rows_of};
 ghost use Rattle.tables.specs.Inner.{Rising};
 
+use crate::order::order;
 use crate::rows::row;
 use std::cmp::Ordering;
 
@@ -16,7 +17,7 @@ pub fn is_row(x: &[u8], table: &[u8]) -> bool
     let mut high = table.len() / x.len();
     while low < high {
         let middle = low + (high - low) / 2;
-        match x.cmp(row(table, x.len(), middle)) {
+        match order(x, row(table, x.len(), middle)) {
             Ordering::Less => high = middle,
             Ordering::Equal => return true,
             Ordering::Greater => low = middle + 1,

@@ -1,13 +1,12 @@
--- Compare: what the library's comparison of two rows says of their order.
+-- Compare: what the comparison of two rows says of their order.
 use native.Mathlib.Omega.{arith}
 use mathlib.Core.Path.{◌≡◌, refl, sym, ◌∙◌, ap}
-use mathlib.Core.Bool.{Bool, true, false}
+use mathlib.Core.Bool.{true, false}
 use Rattle.std.specs.declared.cmp.Ordering.{Ordering}
 use Rattle.std.specs.declared.cmp.Ordering.TheVariants.{Less, Equal, Greater}
-use Rattle.std.specs.Prelude.{Some}
-use Rattle.std.specs.Ordering.{is_lt, is_eq, is_some_and, nat_cmp}
-use Rattle.std.specs.Cmp.Lexicographic.{slice_cmp, slice_partial_cmp}
-use Rattle.std.proofs.lemmas.Cmp.{same_from_slice_cmp, same_from_slice_cmp_tested}
+use Rattle.std.specs.Ordering.{is_lt, is_eq, nat_cmp}
+use Rattle.std.specs.Cmp.Lexicographic.{slice_cmp}
+use Rattle.std.proofs.lemmas.Cmp.{same_from_slice_cmp}
 use Rattle.std.proofs.lemmas.Bool.Decides.{nat_tests}
 use Rattle.meaning.specs.Rows.{Row, before, same}
 
@@ -28,8 +27,3 @@ module _ (a b : Row) (r : Ordering) (compared : r ≡ slice_cmp nat_cmp a b) whe
 
   pub is_more : r ≡ Greater → (before a b ≡ false) × (same a b ≡ false)
   is_more e = (sym before_is ∙ ap is_lt e, sym same_is ∙ ap is_eq e)
-
--- `<` of two rows
-pub before_tested : (a b : Row) (r : Bool) → r ≡ is_some_and is_lt (slice_partial_cmp (λ x y. Some (nat_cmp x y)) a b) → r ≡ before a b
-unfolding before
-before_tested = same_from_slice_cmp_tested nat_cmp is_lt before refl (λ _ _. refl) (λ _ _. refl) (λ x y xs ys o h. grind (arith, nat_tests))

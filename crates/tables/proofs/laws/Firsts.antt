@@ -96,7 +96,7 @@ pub record Low (rows : List Row) (k : ℕ) : Type 0 where
   pub before : (j : ℕ) → suc j < k → T (before (row rows j) (row rows (suc j)))
 
 module _ (rows : List Row) where
-  abbrev is_next : ℕ → Bool
+  abbrev pub is_next : ℕ → Bool
   is_next k = before (row rows k) (row rows (suc k))
 
   pub low_none : (first_low rows ≡ none) ↔ T (ascending rows)

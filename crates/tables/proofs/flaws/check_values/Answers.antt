@@ -1,5 +1,5 @@
 -- What is found among the pairs of a value and its size (value_found).
-use Rattle.std.proofs.Common.{◌≡◌, ◌<◌, ◌≤◌, ◌+◌, MatchOption}
+use Rattle.std.proofs.Common.{◌≡◌, ◌<◌, ◌≤◌, ◌+◌, ◌*◌, MatchOption, length}
 use Rattle.std.specs.Prelude.{Ok, Err}
 use borrow.Author.Tests.{tests}
 use Rattle.std.proofs.Common.{rules}
@@ -11,7 +11,8 @@ use Rattle.tables.proofs.flaws.check_values.Goals as goal
 use Rattle.tables.proofs.flaws.check_values.Goals.{After-position}
 
 found :
-    (c : After-position) → MatchOption c.position.result (Ok tt ≡ passed_of (value_flaw c.args.sizes.now c.args.row.now c.args.at)) (λ i. Err (Value (c.args.at + i)) ≡ passed_of (value_flaw c.args.sizes.now c.args.row.now c.args.at))
+    (c : After-position) → MatchOption c.position.result (Ok tt ≡ passed_of (value_flaw c.args.sizes.now c.args.row.now (c.args.k * length c.args.sizes.now)))
+    (λ i. Err (Value (c.args.k * length c.args.sizes.now + i)) ≡ passed_of (value_flaw c.args.sizes.now c.args.row.now (c.args.k * length c.args.sizes.now)))
 found c =
     value_found _ _ _ c.requires.0 c.position.result
     (IsFirst-from_position c.position.new.self _ c.position.result (λ p. p.1 ≤ p.0) (λ p. p.0 < p.1) c.position.ensures.ran

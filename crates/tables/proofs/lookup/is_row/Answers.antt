@@ -11,13 +11,13 @@ row-requires c = middle_is _ _ _ _ c.loop-low.invariant c.loop-low-test.true
 
 pub loop-low-preserved-in-Less : goal.loop-low-preserved-in-Less
 loop-low-preserved-in-Less c =
-    halving_low _ _ _ _ c.loop-low.invariant c.loop-low-test.true _ c.row.ensures.0 _ c.cmp.ensures c.in-Less.is
+    halving_low _ _ _ _ c.loop-low.invariant c.loop-low-test.true _ c.row.ensures.0 _ c.order.ensures c.in-Less.is
 
 pub returns-in-Equal : goal.returns-in-Equal
-returns-in-Equal c = halving_found _ _ _ _ c.loop-low.invariant c.loop-low-test.true _ c.row.ensures.0 _ c.cmp.ensures c.in-Equal.is
+returns-in-Equal c = halving_found _ _ _ _ c.loop-low.invariant c.loop-low-test.true _ c.row.ensures.0 _ c.order.ensures c.in-Equal.is
 
 pub loop-low-preserved : goal.loop-low-preserved
-loop-low-preserved c = halving_high _ _ _ _ c.loop-low.invariant c.loop-low-test.true _ c.row.ensures.0 _ c.cmp.ensures c.in-Greater.is
+loop-low-preserved c = halving_high _ _ _ _ c.loop-low.invariant c.loop-low-test.true _ c.row.ensures.0 _ c.order.ensures c.in-Greater.is
 
 pub returns : goal.returns
 returns c = search (halving_end, arith)
