@@ -1,5 +1,5 @@
 -- Inner: the words that only inner contracts cite.
-use Rattle.std.specs.Prelude.{ℕ, ◌+◌, ◌≤◌, ◌-◌, ◌≡◌, List, [], ◌∷◌, Bool, true, false, not, ◌&&◌, Some, None, length, get_or, drop, take, eqb}
+use Rattle.std.specs.Prelude.{ℕ, ◌+◌, ◌≤◌, ◌-◌, ◌≡◌, List, [], ◌∷◌, ◌++◌, Bool, true, false, not, ◌&&◌, Some, None, length, get_or, drop, take, replicate, eqb}
 use Rattle.std.specs.Prelude as code
 use Rattle.std.proofs.Math.Option.{Option, none, some}
 use Rattle.meaning.specs.Rules.{Rule, Literal, holds}
@@ -12,10 +12,19 @@ use Rattle.reducing.specs.declared.rows.Rows.{Rows}
 abbrev pub Written : List ℕ → Type 0
 Written b = b ≡ encode_literals (literals_in b)
 
--- the first of the bytes, so many, are a rule's, of as many literals as fit
+-- the first of the bytes, so many, are a rule's, of as many literals as fit; zeros fill the room behind them
 pub record Held (count : ℕ) (bytes : List ℕ) : Type 0 where
   pub few : count ≤ 96
+  pub room : length bytes ≡ 96
   pub written : Written (take count bytes)
+  pub blank : drop count bytes ≡ replicate (96 - count) 0
+
+-- how many bytes the rule takes, and all that a hand has which holds it
+abbrev pub taken : Rule → ℕ
+taken r = length (encode_literals r)
+
+abbrev pub filled : Rule → List ℕ
+filled r = encode_literals r ++ replicate (96 - taken r) 0
 
 abbrev pub rows_in : Rows → List Row
 rows_in rows = rows_of rows.l rows.table.now

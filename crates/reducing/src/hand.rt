@@ -12,8 +12,9 @@ use crate::sides::horn;
 use literals::{Family, Side, Sign};
 use std::marker::Model;
 
-// At most 32 literals, three bytes each: setting, sign, bound.
-#[derive(Drop)]
+// At most 32 literals, three bytes each: setting, sign, bound. Zeros stand behind them, so that the rule gives the bytes back, as
+// `Copy` asks.
+#[derive(Clone, Copy)]
 pub struct Hand {
     length: usize,
     bytes: [u8; 96],
@@ -23,13 +24,18 @@ impl Model for Hand {
     ghost use Rattle.std.specs.Prelude.{take};
     ghost use Rattle.meaning.specs.Rules.{Rule};
     ghost use Rattle.literals.specs.Inner.{literals_in};
-    ghost use Rattle.reducing.specs.Inner.{Held};
+    ghost use Rattle.reducing.specs.Inner.{Held, taken, filled};
+    ghost use Rattle.reducing.specs.Proved.{back_count, back_bytes};
 
     ghost Value = { Rule };
 
     ghost view = { λ h. literals_in (take h.length h.bytes) };
 
     ghost invariant = { λ h. Held h.length h.bytes };
+
+    ghost inverse = { λ r. record { length = taken r; bytes = filled r } };
+
+    ghost inverse_ok = { λ h held i. record { length = back_count held i; bytes = back_bytes held i } };
 }
 
 impl Hand {
@@ -69,15 +75,12 @@ impl Hand {
         self.keep(&[setting, sign.byte(), bound]);
     }
 
-    // The same rule with one literal more at the end. The fields are copied here: a derived clone could fail.
+    // The same rule with one literal more at the end.
     pub fn with(&self, setting: u8, sign: Sign, bound: u8) -> Hand
         requires { length self.now < 32 }
         ensures { result ≡ self.now ++ (literal (sign_of sign) setting bound ∷ []) }
     {
-        let mut more = Hand {
-            length: self.length,
-            bytes: self.bytes,
-        };
+        let mut more = *self;
         more.push(setting, sign, bound);
         more
     }

@@ -1,5 +1,5 @@
 -- `reducing::sides::join` meets its contract. The invariant: the first i values are combined (ChangeFrom).
-use Rattle.std.proofs.Common.{rules, arith, add-one, ap, refl, drop-cons, ◌∙◌}
+use Rattle.std.proofs.Common.{get_or, rules, arith, add-one, ap, refl, drop-cons, ◌∙◌}
 use Rattle.std.proofs.Math.Option.{some}
 use Rattle.std.proofs.lemmas.List.{take_at}
 use Rattle.std.proofs.Math.ListN.{drop_of_length-le}
@@ -12,7 +12,7 @@ pub loop-i-init : goal.loop-i-init
 loop-i-init c = search (change_start, rules)
 
 pub loop-i-preserved : goal.loop-i-preserved
-loop-i-preserved c = change_turn c.loop-i.invariant (drop-cons c.args.row.now c.loop-i.i 0 c.loop-i-test.true ∙ rw add-one) c.pick.ensures
+loop-i-preserved c = change_turn c.loop-i.invariant {x = get_or c.args.row.now c.loop-i.i 0} (drop-cons c.args.row.now c.loop-i.i 0 c.loop-i-test.true ∙ rw add-one) (search (c.pick.ensures, rules))
 
 pub returns-after-loop-i : goal.returns-after-loop-i
 returns-after-loop-i c = rw c.in-Some.is (joined_row _ _ _ _ (omega arith) (change_end c.loop-i.invariant (drop_of_length-le c.args.row.now c.loop-i-test.false)))

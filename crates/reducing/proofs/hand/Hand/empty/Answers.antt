@@ -6,7 +6,7 @@ use Rattle.reducing.proofs.hand.Hand.empty.Goals as goal
 
 pub invariant_of-result : goal.invariant_of-result
 unfolding encode_literals literals_in
-invariant_of-result c = record { few = omega arith; written = refl }
+invariant_of-result c = record { few = omega arith; room = refl; written = refl; blank = refl }
 
 pub returns : goal.returns
 unfolding literals_in
