@@ -53,9 +53,11 @@ impl Reader<'_> {
         ensures inside { IfOk result (λ v. (v ≡ from + 3 + 3 * c) × (v ≤ length self.now.book.now)) }
     {
         let mut low = 0;
-        for k in 0..c {
-            low = self.literal(from, low, from + 3 + 3 * k)?;
+        let mut p = from + 3;
+        for _k in 0..c {
+            low = self.literal(from, low, p)?;
+            p += 3;
         }
-        Ok(from + 3 + 3 * c)
+        Ok(p)
     }
 }

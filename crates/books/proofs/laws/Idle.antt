@@ -3,11 +3,11 @@ use Prim.Native.Nat.{ℕ, zero, suc, ◌+◌, ◌*◌, ◌-◌, ◌≤◌, ◌<�
 use native.Mathlib.Omega.{arith}
 use mathlib.Core.Path.{◌≡◌, refl, sym, ◌∙◌}
 use mathlib.Core.Logic.{◌≢◌}
-use mathlib.Core.Bool.{true, false, ◌&&◌, ◌||◌, or-false}
+use mathlib.Core.Bool.{Bool, true, false, ◌&&◌, ◌||◌, or-false}
 use mathlib.Core.List.{List, [], ◌∷◌}
-use lib.Dec.{eqb, leb}
+use lib.Dec.{eqb}
 use lib.ListN.{get_or}
-use borrow.Author.Tests.{ne_eqb}
+use borrow.Author.Tests.{eq-eqb, ne_eqb}
 use Rattle.meaning.specs.Rules.{Literal, Rule, at_most, at_least, covers, overlap, overlaps, idle, key, Ordered}
 use Rattle.meaning.specs.Bytes.{literal, literal_at, literals_at}
 use Rattle.books.specs.Inner.{idle_next}
@@ -55,53 +55,57 @@ module _ (b : List ℕ) (p q : ℕ) where
   unfolding overlap
   overlap_negative h k = rw (h, k)
 
-  overlap_both : get_or b (p + 1) 0 ≡ 0 → get_or b (q + 1) 0 ≢ 0 → eqb (get_or b p 0) (get_or b q 0) && leb (get_or b (q + 2) 0) (get_or b (p + 2) 0) ≡ overlap (literal_at b p) (literal_at b q)
-  unfolding overlap covers
-  overlap_both h k = rw h (go (get_or b (q + 1) 0) k)
+  pub overlap_apart : get_or b p 0 ≢ get_or b q 0 → false ≡ overlap (literal_at b p) (literal_at b q)
+  unfolding overlap
+  overlap_apart h = go (get_or b (p + 1) 0) (get_or b (q + 1) 0)
     where
-      go : (k : ℕ) → k ≢ 0 → eqb (get_or b p 0) (get_or b q 0) && leb (get_or b (q + 2) 0) (get_or b (p + 2) 0) ≡ overlap (at_most (get_or b p 0) (get_or b (p + 2) 0)) (literal k (get_or b q 0) (get_or b (q + 2) 0))
-      go zero h = absurd (h refl)
-      go (suc k) h = refl
+      go : (g k : ℕ) → false ≡ overlap (literal g (get_or b p 0) (get_or b (p + 2) 0)) (literal k (get_or b q 0) (get_or b (q + 2) 0))
+      go zero zero = refl
+      go zero (suc k) = rw (ne_eqb (get_or b p 0) (get_or b q 0) h)
+      go (suc g) zero = refl
+      go (suc g) (suc k) = refl
 
-  pub overlap_same : get_or b (p + 1) 0 ≡ 0 → get_or b (q + 1) 0 ≢ 0 → eqb (get_or b p 0) (get_or b q 0) ≡ true → leb (get_or b (q + 2) 0) (get_or b (p + 2) 0) ≡ overlap (literal_at b p) (literal_at b q)
-  overlap_same h k e = rw e at (overlap_both h k)
+  pub overlap_same : get_or b p 0 ≡ get_or b q 0 → get_or b (p + 1) 0 ≡ 0 → get_or b (q + 1) 0 ≢ 0 → (r : Bool) → r ≡ covers (get_or b (p + 2) 0) (get_or b (q + 2) 0)
+      → r ≡ overlap (literal_at b p) (literal_at b q)
+  unfolding overlap
+  overlap_same e h k r s = s ∙ rw h (go (get_or b (q + 1) 0) k)
+    where
+      go : (k : ℕ) → k ≢ 0 → covers (get_or b (p + 2) 0) (get_or b (q + 2) 0) ≡ overlap (at_most (get_or b p 0) (get_or b (p + 2) 0)) (literal k (get_or b q 0) (get_or b (q + 2) 0))
+      go zero n = absurd (n refl)
+      go (suc k) n = rw (eq-eqb (get_or b p 0) (get_or b q 0) e)
 
-  pub overlap_other : get_or b (p + 1) 0 ≡ 0 → get_or b (q + 1) 0 ≢ 0 → eqb (get_or b p 0) (get_or b q 0) ≡ false → eqb (get_or b p 0) (get_or b q 0) ≡ overlap (literal_at b p) (literal_at b q)
-  overlap_other h k e = e ∙ rw e at (overlap_both h k)
+pub ruleset overlap_ways = (overlap_apart, overlap_positive, overlap_negative, overlap_same)
 
-pub ruleset overlap_ways = (overlap_positive, overlap_negative, overlap_same, overlap_other)
-
--- ---- the loop: i is one more than the number of literals that were looked at with the one after them
-pub record IdleAt (b : List ℕ) (start c i : ℕ) : Type 0 where
-  pub whole : idle_next (literals_at b start c) ≡ idle_next (literals_at b (start + 3 * i - 3) (c + 1 - i))
+-- ---- the loop: i is one more than the number of literals before p
+pub record IdleAt (b : List ℕ) (start c p i : ℕ) : Type 0 where
+  pub whole : idle_next (literals_at b start c) ≡ idle_next (literals_at b p (c + 1 - i))
+  pub place : p + 3 ≡ start + 3 * i
 
 module _ (b : List ℕ) (start c : ℕ) where
-  pub idle_start : IdleAt b start c 1
-  idle_start = let e : c + 1 - 1 ≡ c = omega arith in let f : start + 3 * 1 - 3 ≡ start = omega arith in record { whole = rw (e, f) }
+  pub idle_start : IdleAt b start c start 1
+  idle_start = let e : c + 1 - 1 ≡ c = omega arith in record { whole = rw e; place = omega arith }
 
-  module _ (i : ℕ) (a : IdleAt b start c i) (o : 1 ≤ i) where
-    idle_step : i < c → idle_next (literals_at b start c)
-        ≡ overlap (literal_at b (start + 3 * i - 3)) (literal_at b (start + 3 * i - 3 + 3)) || idle_next (literals_at b (start + 3 * (i + 1) - 3) (c + 1 - (i + 1)))
+  module _ (p i : ℕ) (a : IdleAt b start c p i) where
+    idle_step : i < c → idle_next (literals_at b start c) ≡ overlap (literal_at b p) (literal_at b (p + 3)) || idle_next (literals_at b (p + 3) (c + 1 - (i + 1)))
     unfolding idle_next literals_at
     idle_step h =
         let e : c + 1 - i ≡ suc (suc (c - i - 1)) = omega arith in
         let f : c + 1 - (i + 1) ≡ suc (c - i - 1) = omega arith in
-        let g : start + 3 * (i + 1) - 3 ≡ start + 3 * i - 3 + 3 = omega arith in
-        a.whole ∙ rw (e, f, g)
+        a.whole ∙ rw (e, f)
 
-    pub idle_found : i < c → overlap (literal_at b (start + 3 * i - 3)) (literal_at b (start + 3 * i - 3 + 3)) ≡ true → true ≡ idle_next (literals_at b start c)
+    pub idle_found : i < c → overlap (literal_at b p) (literal_at b (p + 3)) ≡ true → true ≡ idle_next (literals_at b start c)
     idle_found h e = sym (idle_step h ∙ rw e)
 
-    pub idle_on : i < c → overlap (literal_at b (start + 3 * i - 3)) (literal_at b (start + 3 * i - 3 + 3)) ≡ false → IdleAt b start c (i + 1)
-    idle_on h e = record { whole = idle_step h ∙ rw e }
+    pub idle_on : i < c → overlap (literal_at b p) (literal_at b (p + 3)) ≡ false → IdleAt b start c (p + 3) (i + 1)
+    idle_on h e = record { whole = idle_step h ∙ rw e; place = omega (arith, a.place) }
 
     pub idle_none : c ≤ i → false ≡ idle_next (literals_at b start c)
     unfolding idle_next literals_at
-    idle_none h = sym (a.whole ∙ go (start + 3 * i - 3) (c + 1 - i) (omega arith))
+    idle_none h = sym (a.whole ∙ go (c + 1 - i) (omega arith))
       where
-        go : (p k : ℕ) → k < 2 → idle_next (literals_at b p k) ≡ false
-        go p zero h = refl
-        go p (suc zero) h = refl
-        go p (suc (suc k)) h = absurd (omega arith)
+        go : (k : ℕ) → k < 2 → idle_next (literals_at b p k) ≡ false
+        go zero h = refl
+        go (suc zero) h = refl
+        go (suc (suc k)) h = absurd (omega arith)
 
 pub ruleset idle_loop = (idle_start, idle_found, idle_on, idle_none)

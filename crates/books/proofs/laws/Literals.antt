@@ -55,28 +55,23 @@ literal_tells b ns from low p v e =
     ]
 
 -- ---- the loop over the literals of a rule: c - k of them are left
-pub record LiteralsAt (b ns : List ℕ) (from c low k : ℕ) : Type 0 where
-  pub whole : literals_of b ns from 0 (from + 3) c ≡ literals_of b ns from low (from + 3 + 3 * k) (c - k)
-  pub inside : from + 3 + 3 * k ≤ length b
+pub record LiteralsAt (b ns : List ℕ) (from c low p k : ℕ) : Type 0 where
+  pub whole : literals_of b ns from 0 (from + 3) c ≡ literals_of b ns from low p (c - k)
+  pub place : p ≡ from + 3 + 3 * k
+  pub inside : p ≤ length b
 
-module _ (b ns : List ℕ) (from low c k : ℕ) where
-  abbrev p : ℕ
-  p = from + 3 + 3 * k
-
+module _ (b ns : List ℕ) (from low p c k : ℕ) where
   pub literals_fault : k < c → (f : Fault) → Err f ≡ literal_of b ns from low p → literals_of b ns from low p (c - k) ≡ Err f
   unfolding literals_of
   literals_fault h f e = let m : c - k ≡ suc (c - (k + 1)) = omega arith in rw (m, ← e)
 
-  pub literals_on : k < c → (v : ℕ) → Ok v ≡ literal_of b ns from low p → literals_of b ns from low p (c - k) ≡ literals_of b ns from v (from + 3 + 3 * (k + 1)) (c - (k + 1))
+  pub literals_on : k < c → (v : ℕ) → Ok v ≡ literal_of b ns from low p → literals_of b ns from low p (c - k) ≡ literals_of b ns from v (p + 3) (c - (k + 1))
   unfolding literals_of
-  literals_on h v e =
-      let m : c - k ≡ suc (c - (k + 1)) = omega arith in
-      let q : from + 3 + 3 * (k + 1) ≡ p + 3 = omega arith in
-      rw (m, q, ← e)
+  literals_on h v e = let m : c - k ≡ suc (c - (k + 1)) = omega arith in rw (m, ← e)
 
-  pub literals_end : k ≡ c → literals_of b ns from low p (c - k) ≡ Ok (from + 3 + 3 * c)
+  pub literals_end : c ≤ k → literals_of b ns from low p (c - k) ≡ Ok p
   unfolding literals_of
-  literals_end h = let m : c - k ≡ 0 = omega arith in rw (m, h)
+  literals_end h = let m : c - k ≡ 0 = omega arith in rw m
 
 pub ruleset literals_loop = (literals_fault, literals_on, literals_end)
 

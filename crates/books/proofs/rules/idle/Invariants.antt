@@ -3,4 +3,4 @@ use Rattle.books.proofs.laws.Idle.{IdleAt}
 use Rattle.books.proofs.rules.idle.Given as goal
 
 abbrev pub invariant-loop-i : goal.invariant-loop-i
-invariant-loop-i l = IdleAt l.book l.start l.c l.i
+invariant-loop-i l = IdleAt l.book l.start l.c l.p l._i
