@@ -15,12 +15,13 @@ pub struct Cursor {
     pub values: [u8; 16],
 }
 
-// Is each value of the prefix below its setting's size?
+// Is each value of the prefix below its setting's size? The sizes are cut to its length, so that one length alone ends the loop.
 fn inside(sizes: &[u8], c: Cursor) -> bool
     requires { (c.len ≤ length sizes.now) × (length sizes.now ≤ 16) }
     ensures { result ≡ fits sizes.now c }
 {
     let prefix = &c.values[..c.len];
+    let sizes = &sizes[..c.len];
     prefix.iter().zip(sizes).all(|(v, n)| v < n)
 }
 

@@ -26,50 +26,89 @@ fn settle(places: &mut [u32], hints: &mut [u8], i: usize, k: usize, yes: bool) -
     k + 1
 }
 
+// Does the literal of this number, from 1 (0 is none, as the hints have it), of the rule at place `at` show that all that begin with the
+// prefix meet it? The values are copied only where one is read.
+fn shows(book: &[u8], at: usize, hint: usize, cur: Prefix) -> bool
+    requires { end_at book.now at ≤ length book.now }
+    ensures { Shows book.now at (prefix_of cur.cursor) result }
+{
+    let count = usize::from(book[at + 2]);
+    if hint == 0 || count < hint {
+        return false;
+    }
+    let q = at + 3 * hint;
+    let i = usize::from(book[q]);
+    if cur.cursor.len <= i {
+        return false;
+    }
+    let values = cur.cursor.values;
+    holds(book[q + 1], book[q + 2], values[i])
+}
+
+// The set without the values that the rule at place `at` forbids below the prefix. Entry i's hint is asked first, and set anew; 0 is
+// none, since bytes take half the stack that Options would.
+fn ask(book: &[u8], hints: &mut [u8], i: usize, at: usize, cur: Prefix, set: u64) -> u64
+    requires { Stands book.now at × (dead (rule_at book.now at ∷ []) (prefix_of cur.cursor) ≡ false) × (i < length hints.old) }
+    ensures { Asks book.now at (prefix_of cur.cursor) set result }
+{
+    if shows(book, at, usize::from(hints[i]), cur) {
+        return set;
+    }
+    let j = judge(book, at, cur);
+    hints[i] = j.hint.unwrap_or(0);
+    without(set, j.low, j.high)
+}
+
+// The values that no entry from `from` up to below `end` forbids below the prefix. It is lent the book and no task, of which the book
+// would be read anew for each entry.
+fn group(book: &[u8], places: &[u32], hints: &mut [u8], from: usize, end: usize, cur: Prefix) -> u64
+    requires { Askable book.now (prefix_of cur.cursor) places.now from end (length hints.old) }
+    ensures { Asked book.now (prefix_of cur.cursor) places.now from end result }
+{
+    let mut set = u64::MAX;
+    for i in from..end {
+        let at = places[i] as usize;
+        set = ask(book, hints, i, at, cur, set);
+    }
+    set
+}
+
+// Does the prefix leave the rule at place `at` open: does no literal on its settings hold?
+#[tactic(auto, unfolding(crate::specs::Inner::open_of, crate::specs::Inner::is_open))]
+fn leaves_open(book: &[u8], at: usize, cur: Prefix) -> bool
+    requires { end_at book.now at ≤ length book.now }
+    ensures { result ≡ open_of book.now (prefix_of cur.cursor) at }
+{
+    let count = usize::from(book[at + 2]);
+    match early(book, at + 3, count, cur) {
+        Passed::Holds(_) => false,
+        Passed::Left { .. } => true,
+    }
+}
+
+// Brings those of the entries from `from` up to below `end` that the prefix leaves open to the front; where the others begin. It is lent
+// the book alone, as `group` is.
+fn sift(
+    book: &[u8],
+    places: &mut [u32],
+    hints: &mut [u8],
+    from: usize,
+    end: usize,
+    cur: Prefix,
+) -> usize
+    requires { Siftable book.now places.old from end (length hints.old) }
+    ensures { Parted (open_of book.now (prefix_of cur.cursor)) places.old from end places.new result }
+{
+    let mut k = from;
+    for i in from..end {
+        let at = places[i] as usize;
+        let yes = leaves_open(book, at, cur);
+        k = settle(places, hints, i, k, yes);
+    }
+    k
+}
+
 impl Task<'_> {
-    // Does the literal of this number, from 1 (0 is none, as the hints have it), of the rule at place `at` show that all that begin with
-    // the prefix meet it?
-    fn shows(&self, at: usize, hint: usize, cur: Prefix) -> bool
-        requires { end_at self.now.book.now at ≤ length self.now.book.now }
-        ensures { Shows self.now.book.now at (prefix_of cur.cursor) result }
-    {
-        let book = self.book;
-        let count = usize::from(book[at + 2]);
-        if hint == 0 || count < hint {
-            return false;
-        }
-        let q = at + 3 * hint;
-        let i = usize::from(book[q]);
-        i < cur.cursor.len && holds(book[q + 1], book[q + 2], cur.cursor.values[i])
-    }
-
-    // The set without the values that the rule at place `at` forbids below the prefix. Entry i's hint is asked first, and set anew; 0 is
-    // none, since bytes take half the stack that Options would.
-    fn ask(&self, hints: &mut [u8], i: usize, at: usize, cur: Prefix, set: u64) -> u64
-        requires { Stands self.now.book.now at × (dead (rule_at self.now.book.now at ∷ []) (prefix_of cur.cursor) ≡ false) × (i < length hints.old) }
-        ensures { Asks self.now.book.now at (prefix_of cur.cursor) set result }
-    {
-        if self.shows(at, usize::from(hints[i]), cur) {
-            return set;
-        }
-        let j = judge(self.book, at, cur);
-        hints[i] = j.hint.unwrap_or(0);
-        without(set, j.low, j.high)
-    }
-
-    // The values that no entry from `from` up to below `end` forbids below the prefix.
-    fn group(&self, places: &[u32], hints: &mut [u8], from: usize, end: usize, cur: Prefix) -> u64
-        requires { Askable self.now.book.now (prefix_of cur.cursor) places.now from end (length hints.old) }
-        ensures { Asked self.now.book.now (prefix_of cur.cursor) places.now from end result }
-    {
-        let mut set = u64::MAX;
-        for i in from..end {
-            let at = places[i] as usize;
-            set = self.ask(hints, i, at, cur, set);
-        }
-        set
-    }
-
     // The values that may follow the live prefix cur, where `run` holds the rules that matter beside the fronts, and the run of rules that
     // matter below it. If no level is gone into nothing is looked at, and the look is of nothing: an Option would have to be taken apart
     // in skip, leaves and turn, though `below` has asked for the levels before.
@@ -94,43 +133,35 @@ impl Task<'_> {
         }
         let from = usize::from(self.starts[cur.cursor.len]);
         let end = usize::from(ends[cur.cursor.len]);
-        let set = self.group(places, hints, from, end, cur);
+        let set = group(self.book, places, hints, from, end, cur);
         scan(self.book, run.at, run.rules, cur, set)
     }
 
-    // Does the prefix leave the rule at place `at` open: does no literal on its settings hold?
-    #[tactic(auto, unfolding(crate::specs::Inner::open_of, crate::specs::Inner::is_open))]
-    fn leaves_open(&self, at: usize, cur: Prefix) -> bool
-        requires { end_at self.now.book.now at ≤ length self.now.book.now }
-        ensures { result ≡ open_of self.now.book.now (prefix_of cur.cursor) at }
-    {
-        let count = usize::from(self.book[at + 2]);
-        matches!(early(self.book, at + 3, count, cur), Passed::Left { .. })
-    }
-
-    // Brings those of the entries from `from` up to below `end` that the prefix leaves open to the front; where the others begin.
-    fn sift(
+    // The fronts with only the rules that the prefix leaves open, in the groups from its own length on.
+    fn shorten(
         &self,
         places: &mut [u32],
         hints: &mut [u8],
-        from: usize,
-        end: usize,
+        ends: [u16; 16],
         cur: Prefix,
-    ) -> usize
-        requires { Siftable self.now.book.now places.old from end (length hints.old) }
-        ensures { Parted (open_of self.now.book.now (prefix_of cur.cursor)) places.old from end places.new result }
+    ) -> [u16; 16]
+        requires { Narrowable self.now.book.now places.old self.now.starts.now ends (length hints.old) }
+        ensures { Narrowed self.now.book.now (prefix_of cur.cursor) places.old self.now.starts.now ends places.new result }
     {
-        let mut k = from;
-        for i in from..end {
-            let at = places[i] as usize;
-            let yes = self.leaves_open(at, cur);
-            k = settle(places, hints, i, k, yes);
+        let l = self.sizes.len();
+        let mut fronts = ends;
+        for g in cur.cursor.len..l {
+            let from = usize::from(self.starts[g]);
+            let end = usize::from(fronts[g]);
+            let k = sift(self.book, places, hints, from, end, cur);
+            fronts[g] = k as u16;
         }
-        k
+        fronts
     }
 
-    // The fronts below the prefix: with only the rules that it leaves open, in the groups from its own length on. They are made shorter
-    // on the first three levels, if any level is gone into and any rule is entered.
+    // The fronts below the prefix. They are made shorter on the first three levels, if any level is gone into and any rule is entered:
+    // mostly nothing is done, so this test is no call.
+    #[inline(always)]
     pub fn narrow(
         &self,
         places: &mut [u32],
@@ -145,14 +176,6 @@ impl Task<'_> {
         if levels == 0 || 3 < cur.cursor.len || self.starts[16] == 0 {
             return ends;
         }
-        let l = self.sizes.len();
-        let mut fronts = ends;
-        for g in cur.cursor.len..l {
-            let from = usize::from(self.starts[g]);
-            let end = usize::from(fronts[g]);
-            let k = self.sift(places, hints, from, end, cur);
-            fronts[g] = k as u16;
-        }
-        fronts
+        self.shorten(places, hints, ends, cur)
     }
 }

@@ -97,15 +97,17 @@ fn leaf(room: &mut [u8], rows: usize, cur: Prefix, v: u8, dead: bool) -> usize
 
 // The last prefix of a walk is not set at each value, but behind the run of them.
 impl Task<'_> {
-    // Visits the dead values from on.v on, up to the first that is not, or as far as the budget goes.
+    // Visits the dead values from on.v on, up to the first that is not, or as far as the budget goes. It is no call, since a call gives a
+    // point by memory.
+    #[inline(always)]
     pub fn skip(&self, on: &Point, cur: Prefix) -> Point
-        requires { (cur.cursor.len < length self.now.sizes.now) × Allows (dead (rules_in self.now.book.now)) (prefix_of cur.cursor) on.now.scan.allowed × (on.now.v ≤ get_or self.now.sizes.now cur.cursor.len 0) }
+        requires { (cur.cursor.len < length self.now.sizes.now) × Allows (dead (rules_in self.now.book.now)) (prefix_of cur.cursor) on.now.scan.allowed }
         ensures { Skips (dead (rules_in self.now.book.now)) self.now.sizes.now cur.cursor self.now.fit self.now.budget on.now.walk on.now.v result.walk result.v × (result.scan ≡ on.now.scan) }
     {
         if self.fit <= on.walk.rows {
             return *on;
         }
-        let n = self.sizes[cur.cursor.len];
+        let n = self.sizes[cur.cursor.len].max(on.v);
         let mut walk = on.walk;
         for v in on.v..n {
             if self.budget <= walk.steps || !lacks(on.scan.allowed, usize::from(v)) {
@@ -127,10 +129,10 @@ impl Task<'_> {
 
     // All that is visited below the live prefix cur of all settings but one, from the value on.v on.
     pub fn leaves(&self, room: &mut [u8], on: &Point, cur: Prefix) -> Walk
-        requires { Ready self.now.sizes.now room.old cur.cursor 1 self.now.fit × (cur.cursor.len + 1 ≡ length self.now.sizes.now) × Allows (dead (rules_in self.now.book.now)) (prefix_of cur.cursor) on.now.scan.allowed × (on.now.v ≤ get_or self.now.sizes.now cur.cursor.len 0) }
+        requires { Ready self.now.sizes.now room.old cur.cursor 1 self.now.fit × (cur.cursor.len + 1 ≡ length self.now.sizes.now) × Allows (dead (rules_in self.now.book.now)) (prefix_of cur.cursor) on.now.scan.allowed }
         ensures { ◌≡◌ {A = S} (result, room.new) (runs (dead (rules_in self.now.book.now)) (length self.now.sizes.now) self.now.fit self.now.budget (from_of (dead (rules_in self.now.book.now)) (part self.now.sizes.now cur.cursor.len 1) (prefix_of cur.cursor) on.now.v) (on.now.walk, room.old)) }
     {
-        let n = self.sizes[cur.cursor.len];
+        let n = self.sizes[cur.cursor.len].max(on.v);
         let mut done = on.walk;
         for v in on.v..n {
             if self.fit <= done.rows || self.budget <= done.steps {

@@ -79,7 +79,7 @@ impl Task<'_> {
         cur: Prefix,
         levels: usize,
     ) -> Walk
-        requires { Ready self.now.sizes.now room.old cur.cursor levels self.now.fit × Narrowable self.now.book.now places.old self.now.starts.now ends (length hints.old) × LooksIf self.now.book.now (dead (rules_in self.now.book.now)) (prefix_of cur.cursor) places.old self.now.starts.now ends on.now.v levels on.now.scan × (on.now.v ≤ get_or self.now.sizes.now cur.cursor.len 0) }
+        requires { Ready self.now.sizes.now room.old cur.cursor levels self.now.fit × Narrowable self.now.book.now places.old self.now.starts.now ends (length hints.old) × LooksIf self.now.book.now (dead (rules_in self.now.book.now)) (prefix_of cur.cursor) places.old self.now.starts.now ends on.now.v levels on.now.scan }
         ensures { (◌≡◌ {A = S} (result, room.new) (runs (dead (rules_in self.now.book.now)) (length self.now.sizes.now) self.now.fit self.now.budget (from_of (dead (rules_in self.now.book.now)) (part self.now.sizes.now cur.cursor.len levels) (prefix_of cur.cursor) on.now.v) (on.now.walk, room.old))) × Kept self.now.starts.now ends places.old places.new }
     {
         if levels == 0 {

@@ -1,5 +1,6 @@
 -- Leaves: the last level. Its values are visited in one loop that counts; the cursor of the last one is made at the end.
-use Prim.Native.Nat.{ℕ, ◌+◌, ◌*◌, ◌-◌, ◌≤◌, ◌<◌}
+use Prim.Native.Nat.{ℕ, suc, ◌+◌, ◌*◌, ◌-◌, ◌≤◌, ◌<◌}
+use native.Mathlib.Nat.{mul-le-mul_left, mul-le-mul_right}
 use native.Mathlib.Omega.{arith}
 use mathlib.Core.Path.{◌≡◌, refl}
 use mathlib.Core.Bool.{Bool, true, false}
@@ -35,6 +36,14 @@ module _ (d : Row → Bool) (ns : Sizes) (cur : Cursor) (fit budget : ℕ) (w : 
     pub going : Going d ns cur 1 fit budget v w o₀ o (behind_of t cur v u) u
 
   module _ (plain : Plain cur) (y : Ready ns o₀ cur 1 fit) (full : cur.len + 1 ≡ length ns) {o : List ℕ} {t : Walk} {u : ℕ} (g : Leafing o t u) where
+    pub leafing_room : t.rows < fit → t.rows * length ns + cur.len < length o
+    leafing_room h = let k : suc t.rows ≤ fit = h in omega (arith, y.cells, g.going.long, mul-le-mul_right (length ns) k)
+
+    pub leafing_rows : t.rows < fit → t.rows < length o
+    leafing_rows h =
+        let some : 1 ≤ length ns = omega arith in
+        omega (arith, leafing_room h, mul-le-mul_left t.rows some)
+
     pub leafing_on : u < get_or ns cur.len 0 → t.rows < fit → t.steps < budget → (set : ℕ) → Allows d (prefix_of cur) set → (i : ℕ) → i ≡ u → (b : Bool) → b ≡ forbidden set i → (m : ℕ) → m ≡ flag b
         → (r : ℕ) (o₁ : List ℕ) → (r ≡ leaf_rows b t.rows) × (o₁ ≡ leaf_room b o (t.rows * length ns) (prefix_of cur) u) → length o₁ ≡ length o
         → Leafing o₁ (record { last = t.last; dead = m; rows = r; steps = t.steps + 1 }) (u + 1)

@@ -10,14 +10,14 @@ use lib.Seq.{set-append_seam, append_snoc, take-suc, length-take-le}
 use borrow.Author.Tests.{lt-ltb, le-ltb}
 use Rattle.meaning.specs.Inner.{Sized}
 use Rattle.meaning.proofs.Tests.{yes_of, is_yes}
-use Rattle.meaning.specs.Rows.{Row, Sizes, begins, limits}
+use Rattle.meaning.specs.Rows.{Row, Sizes, alike, begins, limits}
 use Rattle.meaning.proofs.Alike.{alike_lent}
 use Rattle.listing.specs.declared.cursor.Cursor.{Cursor}
 use Rattle.listing.specs.declared.cursor.Move.{Move}
 use Rattle.listing.specs.declared.cursor.Move.TheVariants.{Down, Along, Up}
 use Rattle.meaning.proofs.Limits.{limits_known}
 use Rattle.listing.specs.Inner.{Tested, Good}
-use Rattle.listing.specs.Cursors.{prefix_of, cursor_of, cursor_ok, next_value, one_shorter, move_to, down_in, along_in, up_in, moved_in, moved_of}
+use Rattle.listing.specs.Cursors.{prefix_of, cursor_of, cursor_ok, next_value, one_shorter, move_to, down_in, along_in, up_in, moved_in, down_of, along_of, up_of, moved_of}
 use Rattle.listing.proofs.laws.Prefixes.{plain_length, good_of, begins_longer, begins_shorter}
 
 -- ---- a prefix that ends in v
@@ -33,12 +33,15 @@ shorter_last (u ∷ []) v = refl
 shorter_last (u ∷ w ∷ p) v = ap (λ (x : Row). u ∷ x) (shorter_last (w ∷ p) v)
 
 module _ (ns : Sizes) (c : Cursor) (limited : Sized ns) (b : Bool) (t : Tested ns c b) where
-  -- a bad cursor does not move
-  pub move_bad : b ≡ false → (m : Move) → c ≡ moved_in ns c m
+  -- a bad cursor does not move, to whatever prefix
+  pub move_bad : b ≡ false → (p : Row) → c ≡ move_to ns c p
   unfolding move_to
-  move_bad n Down = rw (sym t.is ∙ n)
-  move_bad n Along = rw (sym t.is ∙ n)
-  move_bad n Up = rw (sym t.is ∙ n)
+  move_bad n p = rw (sym t.is ∙ n)
+
+  pub moved_bad : b ≡ false → (m : Move) → c ≡ moved_in ns c m
+  moved_bad n Down = move_bad n _
+  moved_bad n Along = move_bad n _
+  moved_bad n Up = move_bad n _
 
   module _ (n : b ≡ true) where
     ok : cursor_ok ns c ≡ true
@@ -176,3 +179,33 @@ module _ (n l : ℕ) (c : Cursor) (m : Move) (b : Bool) (e : b ≡ limits n l) w
   pub moved_lent : b ≡ true → (r : Cursor) → r ≡ moved_in (take l (replicate 16 n)) c m → r ≡ moved_of n l c m
   unfolding moved_of
   moved_lent h r g = g ∙ ap (λ (ns : Sizes). moved_in ns c m) (alike_lent n l (limits_known n l b e h).narrow) ∙ sym (rw (sym e ∙ h))
+
+-- the same of each move by its name
+module _ (n l : ℕ) (c : Cursor) (b : Bool) (e : b ≡ limits n l) where
+  pub down_outside : b ≡ false → c ≡ down_of n l c
+  unfolding down_of
+  down_outside h = rw (sym e ∙ h)
+
+  pub along_outside : b ≡ false → c ≡ along_of n l c
+  unfolding along_of
+  along_outside h = rw (sym e ∙ h)
+
+  pub up_outside : b ≡ false → c ≡ up_of n l c
+  unfolding up_of
+  up_outside h = rw (sym e ∙ h)
+
+  module _ (h : b ≡ true) (m : ℕ) (f : m ≡ n) (r : Cursor) where
+    lent : take l (replicate 16 m) ≡ alike n l
+    lent = rw (f, alike_lent n l (limits_known n l b e h).narrow)
+
+    pub down_lent : r ≡ down_in (take l (replicate 16 m)) c → r ≡ down_of n l c
+    unfolding down_of
+    down_lent g = g ∙ ap (λ (ns : Sizes). down_in ns c) lent ∙ sym (rw (sym e ∙ h))
+
+    pub along_lent : r ≡ along_in (take l (replicate 16 m)) c → r ≡ along_of n l c
+    unfolding along_of
+    along_lent g = g ∙ ap (λ (ns : Sizes). along_in ns c) lent ∙ sym (rw (sym e ∙ h))
+
+    pub up_lent : r ≡ up_in (take l (replicate 16 m)) c → r ≡ up_of n l c
+    unfolding up_of
+    up_lent g = g ∙ ap (λ (ns : Sizes). up_in ns c) lent ∙ sym (rw (sym e ∙ h))

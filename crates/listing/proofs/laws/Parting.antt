@@ -87,14 +87,21 @@ module _ (p : List ℕ) (i k : ℕ) (hi : i < length p) (hk : k < length p) wher
 
 -- ---- the loop: of the elements before i those that are not wanted stand from k on
 
+pub settle_no : (b : Bool) (p : List ℕ) (i k : ℕ) → b ≡ false → (p ≡ settle_list b p i k) × (k ≡ settle_count b k)
+unfolding settle_list settle_count
+settle_no b p i k h = rw h (refl, refl)
+
+pub settle_yes : (b : Bool) (p : List ℕ) (i k : ℕ) → b ≡ true → (swap_of p i k ≡ settle_list b p i k) × (k + 1 ≡ settle_count b k)
+unfolding settle_list settle_count
+settle_yes b p i k h = rw h (refl, refl)
+
 -- within the list `swap` takes no default
 swap_same : (p : List ℕ) (i k : ℕ) → i < length p → k < length p → swap p i k ≡ swap_of p i k
 swap_same [] i k h g = absurd (omega arith)
 swap_same (d ∷ ys) i k h g = rw (get_or_default (d ∷ ys) i d 0 h, get_or_default (d ∷ ys) k d 0 g)
 
-pub settle_yes : (b : Bool) (p : List ℕ) (i k : ℕ) → b ≡ true → i < length p → k < length p → (q : List ℕ) → q ≡ swap p i k → (q ≡ settle_list b p i k) × (k + 1 ≡ settle_count b k)
-unfolding settle_list settle_count
-settle_yes b p i k h m n q e = rw h (e ∙ swap_same p i k m n, refl)
+pub settle_swapped : (b : Bool) (p : List ℕ) (i k : ℕ) → b ≡ true → i < length p → k < length p → (q : List ℕ) → q ≡ swap p i k → (q ≡ settle_list b p i k) × (k + 1 ≡ settle_count b k)
+settle_swapped b p i k h m n q e = let s = settle_yes b p i k h in (e ∙ swap_same p i k m n ∙ s.0, s.1)
 
 module _ (wanted : ℕ → Bool) (p : List ℕ) (lo hi : ℕ) where
   pub record Parting (q : List ℕ) (i k : ℕ) : Type 0 where

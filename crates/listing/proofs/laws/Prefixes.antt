@@ -5,7 +5,7 @@ use mathlib.Core.Path.{◌≡◌, refl, sym, ap, ◌∙◌}
 use mathlib.Core.Bool.{Bool, true, false, ◌&&◌}
 use mathlib.Core.List.{List, [], ◌∷◌, ◌++◌}
 use lib.Dec.{T, leb, ltb, eqb, leb→le, eqb→eq}
-use lib.ListN.{length, length-append, length-drop, get_or, drop, replicate, take-append-drop}
+use lib.ListN.{length, length-append, length-drop, get_or, drop, replicate, length-replicate, take-append-drop}
 use lib.Seq.{set-append_seam, take-append_seam, append_snoc, length-take-le}
 use borrow.Author.Tests.{le-ltb}
 use Rattle.meaning.specs.Rows.{Row, Sizes, begins}
@@ -32,6 +32,14 @@ plain_cursor p h = record { short = h; same = rw (prefix_cursor p) }
 pub plain_length : (c : Cursor) → Plain c → length (prefix_of c) ≡ c.len
 unfolding cursor_of
 plain_length c p = sym (ap (λ (x : Cursor). x.len) p.same)
+
+pub plain_values : (c : Cursor) → Plain c → length c.values ≡ 16
+unfolding cursor_of
+plain_values c p =
+    let e = ap (λ (x : Cursor). length x.values) p.same in
+    let l = plain_length c p in
+    let s = p.short in
+    omega (arith, e, length-append (prefix_of c) (replicate (16 - length (prefix_of c)) 0), length-replicate {A = ℕ} (16 - length (prefix_of c)) 0)
 
 -- ---- one value longer
 

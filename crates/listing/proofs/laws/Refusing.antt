@@ -48,6 +48,9 @@ module _ (ns : Sizes) (d : Row → Bool) (c : Cursor) (budget : ℕ) (o : List �
       page_no_budget (inr m) = rw (ok, le-ltb (length o) (length ns) r, ne_eqb budget 0 m.0, lt-ltb 65535 budget m.1)
 
       module _ (e : budget ≡ 0 → ⊥) where
+        pub page_big_budget : 65535 < budget → refused c BadBudget o ≡ page_in ns d c budget o
+        page_big_budget m = page_no_budget (inr (e, m))
+
         pub page_listed : budget ≤ 65535 → (x : P) → x ≡ listed_in ns d c budget o → x ≡ page_in ns d c budget o
         unfolding page_in
         page_listed m x q = q ∙ sym (rw (ok, le-ltb (length o) (length ns) r, ne_eqb budget 0 e, le-ltb 65535 budget m))

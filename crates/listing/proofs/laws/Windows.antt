@@ -17,6 +17,21 @@ use Rattle.listing.specs.declared.scan.Span.{Span}
 use Rattle.listing.specs.Inner.{AllStand, Stands, Judges, forbidden, Forbids, Window, Scans, widen_of}
 use Rattle.listing.proofs.laws.Standing.{place_add, place_next, rules_add, rules_split, stand_at, stand_part}
 
+-- ---- the ways out of `widen`
+
+module _ (w : Option Span) (lasts : Bool) (at i : ℕ) where
+  pub widen_not : lasts ≡ false → w ≡ widen_of w lasts at i
+  unfolding widen_of
+  widen_not h = rw h
+
+  pub widen_first : lasts ≡ true → w ≡ None → ◌≡◌ {A = Option Span} (Some (record { at = at; first = i; end = i + 1 })) (widen_of w lasts at i)
+  unfolding widen_of
+  widen_first h e = rw (h, e)
+
+  pub widen_more : lasts ≡ true → (s : Span) → w ≡ Some s → ◌≡◌ {A = Option Span} (Some (record { at = s.at; first = s.first; end = i + 1 })) (widen_of w lasts at i)
+  unfolding widen_of
+  widen_more h s e = rw (h, e)
+
 -- ---- the loop of the scan: i rules from place `from` on are judged
 
 module _ (b : List ℕ) (from : ℕ) (x : Row) (set : ℕ) where

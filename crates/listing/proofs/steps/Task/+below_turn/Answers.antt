@@ -53,7 +53,7 @@ pub turn-below-under-requires : goal.turn-below-under-requires
 turn-below-under-requires t c =
     let p = c.requires in
     let w = c.narrow-fronts in
-    (omega (arith, inward_less c.lacks-dead.result c.args.levels (λ x. omega (arith, p.4)), c.inward-deep.ensures), (next_ready c.args.cur.plain p.0 p.4 p.2 p.5 c.push-next.ensures c.lacks-dead.result c.inward-deep.result c.inward-deep.ensures, able_narrowed _ _ _ _ _ _ _ _ _ p.1 w.ensures (c.look-more.auto.hints ∙ w.auto.hints), c.look-more.ensures, omega arith))
+    (omega (arith, inward_less c.lacks-dead.result c.args.levels (λ x. omega (arith, p.4)), c.inward-deep.ensures), (next_ready c.args.cur.plain p.0 p.4 p.2 p.5 c.push-next.ensures c.lacks-dead.result c.inward-deep.result c.inward-deep.ensures, able_narrowed _ _ _ _ _ _ _ _ _ p.1 w.ensures (c.look-more.auto.hints ∙ w.auto.hints), c.look-more.ensures))
 
 pub turn-returns : goal.turn-returns
 turn-returns t c =

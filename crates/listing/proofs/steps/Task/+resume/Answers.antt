@@ -44,7 +44,7 @@ below-requires-2 t c =
     let p = c.requires in
     let r = c.resume-walk in
     let k = kept_below _ _ _ _ _ _ _ r.new.places _ p.2 c.narrow-fronts.ensures r.ensures.1 in
-    (ready_same _ _ _ _ _ _ p.0 r.auto.room, able_kept _ _ _ _ _ _ _ p.2 k (r.auto.hints ∙ c.narrow-fronts.auto.hints ∙ c.look-scan.auto.hints), looks_later k c.look-scan.ensures, omega (arith, (resume_small p.0 p.1 c.if-len-c.false).1))
+    (ready_same _ _ _ _ _ _ p.0 r.auto.room, able_kept _ _ _ _ _ _ _ p.2 k (r.auto.hints ∙ c.narrow-fronts.auto.hints ∙ c.look-scan.auto.hints), looks_later k c.look-scan.ensures)
 
 pub returns : goal.returns
 returns t c =

@@ -1,7 +1,7 @@
--- `narrow`: one front after another; the invariant is `Narrowing` of laws/Sifting.
+-- `shorten`: one front after another; the invariant is `Narrowing` of laws/Sifting.
 use native.Mathlib.Omega.{arith}
 use Rattle.listing.proofs.laws.Sifting.{narrowing_next, narrowing_on}
-use Rattle.listing.proofs.steps.Task.narrow.Goals as goal
+use Rattle.listing.proofs.steps.Task.shorten.Goals as goal
 
 pub sift-k-requires : goal.sift-k-requires
 sift-k-requires c =
