@@ -1,19 +1,44 @@
 // The lines that are printed: the head of a book, a rule, a refusal; and how a line is written.
 use rulebook::{Flaw, Head, Open, Unmade};
-use std::fmt::Display;
+use std::fmt::{Display, Write as _};
 use std::io::Write;
 use std::{fmt, io};
 
 // More bytes than any line has: that of a rule is the longest, with 32 literals.
 const LONGEST: usize = 256;
 
+// A line that is put together before it is written.
+#[derive(Clone, Copy)]
+struct Line {
+    bytes: [u8; LONGEST],
+    length: usize,
+}
+
+impl fmt::Write for Line {
+    // Byte by byte: most parts are one or two, and a copy of so few would be a call.
+    fn write_str(&mut self, s: &str) -> fmt::Result {
+        for byte in s.as_bytes() {
+            if LONGEST <= self.length {
+                return Err(fmt::Error);
+            }
+            self.bytes[self.length] = *byte;
+            self.length += 1;
+        }
+        Ok(())
+    }
+}
+
 // Writes the line, at once.
 pub fn write_line<W: Write, L: Display>(out: &mut W, line: &L) -> io::Result<()> {
-    let mut space = [0u8; LONGEST];
-    let mut rest: &mut [u8] = &mut space;
-    writeln!(rest, "{line}")?;
-    let end = LONGEST.saturating_sub(rest.len());
-    out.write_all(&space[..end])
+    let mut text = Line {
+        bytes: [0; LONGEST],
+        length: 0,
+    };
+    if writeln!(text, "{line}").is_err() {
+        return Err(io::Error::from(io::ErrorKind::WriteZero));
+    }
+    let end = text.length.min(LONGEST);
+    out.write_all(&text.bytes[..end])
 }
 
 // A book, by its head.
